@@ -1,4 +1,4 @@
--- Every refusal that a script can bring about by itself but 36 MergeTwice (merge.hql), and statements that go on rightly after them. It ends with status 1.
+-- Every refusal that a script can bring about by itself but 31 Aborted (abort.hql) and 36 MergeTwice (merge.hql), and statements that go on rightly after them. It ends with status 1.
 CREATE TABLE t (a INT, s STRING);
 --   OK
 CREATE TABLE p (a INT) PARTITIONED BY (k STRING);

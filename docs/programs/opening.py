@@ -26,10 +26,24 @@ def statements(rows, files):
         yield "INSERT INTO t VALUES " + ", ".join(f"({a}, {b}, '{c}', {d})" for a, b, c, d in values) + ";"
 
 
+def scripts(rows, files):
+    """The statements as scripts, none of them longer than a script may be."""
+    script, length = [], 0
+    for statement in statements(rows, files):
+        if len(statement) > 32768:
+            sys.exit(f"a statement of {len(statement)} bytes: say more FILES")
+        if length + len(statement) > 15 << 20:
+            yield "\n".join(script)
+            script, length = [], 0
+        script.append(statement)
+        length += len(statement) + 1
+    yield "\n".join(script)
+
+
 def make(program, folder, rows, files):
     if not os.path.exists(f"{folder}/wh"):
-        script = "\n".join(statements(rows, files)).encode()
-        subprocess.run([program, f"{folder}/wh", "run"], input=script, stdout=subprocess.DEVNULL, check=True)
+        for script in scripts(rows, files):
+            subprocess.run([program, f"{folder}/wh", "run"], input=script.encode(), stdout=subprocess.DEVNULL, check=True)
     if not os.path.exists(f"{folder}/rows.db"):
         base = sqlite3.connect(f"{folder}/rows.db")
         base.execute("CREATE TABLE t (a INTEGER, b INTEGER, c TEXT, d INTEGER)")

@@ -2,9 +2,9 @@
 """random_inserts: texts of INSERTs for both readers of them.
 
 usage: random_inserts.py write [COUNT] [SEED] > ROWS
-       tests_low < ROWS | random_inserts.py read
+       tests_texts < ROWS | random_inserts.py read
 
-`write` prints COUNT rows (100,000) of the call `inserts read` of tests_low, with an answer that is never
+`write` prints COUNT rows (100,000) of the call `inserts read` of tests_texts, with an answer that is never
 right, so that the program prints what it answers. `read` counts the answers: `both TREE` where the reader of
 bytes and the general one give the same tree, `unknown; ..` where only the general one has an answer. Any other
 answer, and an INSERT of written out values alone that is unknown though no part of it was left out on purpose,

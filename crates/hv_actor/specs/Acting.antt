@@ -51,14 +51,50 @@ pub record Went (between : List TrailItem → Type 0) (gained : List TrailItem) 
   pub woven : Woven between (length before) placed added
   pub goes_on : GoesOn before now
 
+-- How a house is seen by those who act on it: what its store tells, that store's count of faults, its record, and what holds of it between two
+-- calls.
+pub record Sight (D H : Type 0) : Type 1 where
+  pub told : D → Option Store
+  pub faults : D → ℕ
+  pub seen : H → HouseSeen D
+  pub keeps : H → Type 0
+
+abbrev pub sees : {D H : Type 0} → (D → Option Store) → (D → ℕ) → (H → HouseSeen D) → (H → Type 0) → Sight D H
+sees told faults seen keeps = record { told = told; faults = faults; seen = seen; keeps = keeps }
+
 -- One step, on a house that was left as `before` and to which others had done what they may meanwhile.
-pub record Held {D H : Type 0} (told : D → Option Store) (faults : D → ℕ) (seen : H → HouseSeen D) (keeps : H → Type 0) (meanwhile : H → H → Type 0)
-    (before now : H) (call : HouseSeen D → Call) (outcome : Outcome) (does : HouseSeen D → HouseSeen D → Type 0) : Type 0 where
+pub record Held {D H : Type 0} (sight : Sight D H) (meanwhile : H → H → Type 0) (before now : H)
+    (call : HouseSeen D → Call) (outcome : Outcome)
+    (does : HouseSeen D → HouseSeen D → Type 0) : Type 0 where
   pub house : H
   pub reached : meanwhile before house
-  pub kept : keeps house
-  pub step : Step told faults (call (seen house)) outcome (seen house) (seen now)
-  pub does_it : does (seen house) (seen now)
+  pub kept : sight.keeps house
+  pub step : Step sight.told sight.faults (call (sight.seen house)) outcome (sight.seen house) (sight.seen now)
+  pub does_it : does (sight.seen house) (sight.seen now)
+
+-- ---- what stands while one acts, and what one knows
+
+-- What stands whatever is done: what the store tells, its count of faults, and what others may add to the trail and do to the house between
+-- two of one's steps.
+pub record Setting (D H : Type 0) : Type 1 where
+  pub told : D → Option Store
+  pub faults : D → ℕ
+  pub between : List TrailItem → Type 0
+  pub meanwhile : H → H → Type 0
+
+abbrev pub among : {D H : Type 0} → (D → Option Store) → (D → ℕ) → (List TrailItem → Type 0) → (H → H → Type 0)
+    → Setting D H
+among told faults between meanwhile = record { told = told; faults = faults; between = between; meanwhile = meanwhile }
+
+-- What one knows between two steps: the places of the trail that are one's own, and the house as it was last seen.
+pub record Moment (H : Type 0) : Type 0 where
+  pub own : List ℕ
+  pub house : H
+
+abbrev pub known : {H : Type 0} → List ℕ → H → Moment H
+known own house = record { own = own; house = house }
+
+-- ---- what others may do
 
 -- nothing is a row of others' items, and two rows are one
 pub record AreRows (between : List TrailItem → Type 0) : Type 0 where

@@ -1,7 +1,7 @@
 ghost use Rattle.std.specs.Prelude.{◌≡◌, ◌≤◌, ℕ, List, length};
 ghost use Rattle.hv_trail.specs.declared.trail.TrailItem.{TrailItem};
 ghost use Rattle.hv_trail.specs.Steps.{HouseSeen, Call, Outcome, gains, Step};
-ghost use Rattle.hv_actor.specs.Acting.{IsLater, Held, Went, AreRows};
+ghost use Rattle.hv_actor.specs.Acting.{IsLater, sees, Held, Went, AreRows};
 
 use hv_shelf::Shelf;
 use std::alloc::Global;
@@ -12,6 +12,9 @@ pub trait Housed<D: Shelf>: Drop {
 
     /// What holds of it between two calls. Each act keeps it.
     ghost keeps: { Self → Type 0 };
+
+    /// Why it is closed, where it is. Each act keeps this too; what it does rests on `keeps` alone.
+    ghost shuts: { Self → Type 0 };
 
     /// How many items its trail has.
     fn items(&self) -> u64
@@ -44,8 +47,10 @@ pub trait Act<D: Shelf, H: Housed<D>>: Drop {
 
     fn act(self, alloc: Global, house: &mut H) -> Self::Answer
         requires keeps { H.keeps house.old }
+        requires shuts { H.shuts house.old }
         requires can { can self (H.seen house.old) }
         ensures keeps { H.keeps house.new }
+        ensures shuts { H.shuts house.new }
         ensures step { Step D.told D.faults (call self (H.seen house.old) result) (outcome self result) (H.seen house.old) (H.seen house.new) }
         ensures adds { gains (call self (H.seen house.old) result) (outcome self result) ≡ adds self result }
         ensures does { does self (H.seen house.old) (H.seen house.new) result };
@@ -73,7 +78,7 @@ pub trait Actor<D: Shelf, H: Housed<D>> {
         requires keeps { keeps self.old }
         requires can { (now : H) → H.keeps now → meanwhile (house self.old) now → A.can act (H.seen now) }
         ensures keeps { keeps self.new }
-        ensures held { Held D.told D.faults H.seen H.keeps meanwhile (house self.old) (house self.new)
+        ensures held { Held (sees D.told D.faults H.seen H.keeps) meanwhile (house self.old) (house self.new)
             (λ seen. A.call act seen result) (A.outcome act result) (λ before now. A.does act before now result) }
         ensures went { Went between (A.adds act result)
             (own self.old) (own self.new) (H.seen (house self.old)).trail (H.seen (house self.new)).trail };
@@ -83,6 +88,9 @@ pub trait Actor<D: Shelf, H: Housed<D>> {
 
     /// What was last seen of the house is as each act keeps it.
     ghost kept: { (self : Self) → keeps self → H.keeps (house self) };
+
+    /// And so is why it is closed, where it is.
+    ghost shut: { (self : Self) → keeps self → H.shuts (house self) };
 
     /// What two rows of others' items may be, they may be together.
     ghost rows: { AreRows between };
@@ -101,11 +109,13 @@ impl<D: Shelf, H: Housed<D>> Actor<D, H> for H {
 
     ghost meanwhile = { Untouched };
 
-    ghost keeps = { λ h. H.keeps h };
+    ghost keeps = { λ h. H.keeps h × H.shuts h };
 
     ghost goes_on = { untouched_goes_on D.faults H.seen };
 
-    ghost kept = { λ h keeps. keeps };
+    ghost kept = { λ h keeps. keeps.0 };
+
+    ghost shut = { λ h keeps. keeps.1 };
 
     ghost rows = { nothing_rows };
 

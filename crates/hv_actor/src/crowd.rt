@@ -1,5 +1,5 @@
 ghost use Rattle.std.specs.Prelude.{◌≡◌, ◌≤◌, ◌<◌, ◌+◌, ◌-◌, ◌++◌, min, length, vec_len, vec_capacity, IfOk, true};
-ghost use Rattle.hv_actor.specs.Acting.{IsLater, Touched, Held, Went, Anything, numbers_from, own_among};
+ghost use Rattle.hv_actor.specs.Acting.{IsLater, Touched, sees, Held, Went, Anything, numbers_from, own_among};
 
 use crate::actor::{Act, Actor, Housed};
 use hv_base::NoMemory;
@@ -12,7 +12,9 @@ pub trait Others<D: Shelf, H: Housed<D>>: Drop {
     /// Lets them do what they want to do now.
     fn go(&mut self, alloc: Global, house: &mut H)
         requires keeps { H.keeps house.old }
+        requires shuts { H.shuts house.old }
         ensures keeps { H.keeps house.new }
+        ensures shuts { H.shuts house.new }
         ensures later { IsLater D.faults (H.seen house.old) (H.seen house.new) };
 }
 
@@ -127,11 +129,14 @@ impl<D: Shelf, H: Housed<D>, O: Others<D, H>> Crowd<D, H, O> {
     /// One step, behind those of the others.
     fn behind_others<A: Act<D, H>>(&mut self, alloc: Global, act: A) -> A::Answer
         requires keeps { H.keeps self.old.house }
+        requires shuts { H.shuts self.old.house }
         requires can { (now : H) → H.keeps now → Touched D.faults H.seen self.old.house now → A.can act (H.seen now) }
         requires room { vec_len self.old.early + 2 ≤ vec_capacity self.old.early }
         requires since { self.old.since ≡ length (H.seen self.old.house).trail }
         ensures keeps { H.keeps self.new.house }
-        ensures held { Held D.told D.faults H.seen H.keeps (Touched D.faults H.seen) self.old.house self.new.house
+        ensures shuts { H.shuts self.new.house }
+        ensures held { Held (sees D.told D.faults H.seen H.keeps) (Touched D.faults H.seen) self.old.house
+            self.new.house
             (λ seen. A.call act seen result) (A.outcome act result) (λ before now. A.does act before now result) }
         ensures went { Went Anything (A.adds act result)
             (own_among self.old.early.items self.old.since (H.seen self.old.house).trail)
@@ -150,10 +155,13 @@ impl<D: Shelf, H: Housed<D>, O: Others<D, H>> Crowd<D, H, O> {
     /// One step, and nobody comes before it.
     fn undisturbed<A: Act<D, H>>(&mut self, alloc: Global, act: A) -> A::Answer
         requires keeps { H.keeps self.old.house }
+        requires shuts { H.shuts self.old.house }
         requires can { (now : H) → H.keeps now → Touched D.faults H.seen self.old.house now → A.can act (H.seen now) }
         requires since { self.old.since ≤ length (H.seen self.old.house).trail }
         ensures keeps { H.keeps self.new.house }
-        ensures held { Held D.told D.faults H.seen H.keeps (Touched D.faults H.seen) self.old.house self.new.house
+        ensures shuts { H.shuts self.new.house }
+        ensures held { Held (sees D.told D.faults H.seen H.keeps) (Touched D.faults H.seen) self.old.house
+            self.new.house
             (λ seen. A.call act seen result) (A.outcome act result) (λ before now. A.does act before now result) }
         ensures went { Went Anything (A.adds act result)
             (own_among self.old.early.items self.old.since (H.seen self.old.house).trail)
@@ -176,11 +184,13 @@ impl<D: Shelf, H: Housed<D>, O: Others<D, H>> Actor<D, H> for Crowd<D, H, O> {
 
     ghost meanwhile = { Touched D.faults H.seen };
 
-    ghost keeps = { λ c. H.keeps c.house };
+    ghost keeps = { λ c. H.keeps c.house × H.shuts c.house };
 
     ghost goes_on = { λ before now later. later };
 
-    ghost kept = { λ c keeps. keeps };
+    ghost kept = { λ c keeps. keeps.0 };
+
+    ghost shut = { λ c keeps. keeps.1 };
 
     ghost rows = { anything_rows };
 

@@ -10,6 +10,7 @@ use Rattle.hv_history.specs.declared.entry.Cause.TheVariants as cause
 use Rattle.hv_history.specs.declared.state.Transaction.{Transaction}
 use Rattle.hv_history.specs.State.{State}
 use Rattle.hv_history.specs.Legal.{is_open, load, FullFits, HasRoom, profile}
+use Rattle.hv_stands.specs.Running.{IsOf, IsOwnCause}
 use Rattle.hv_trail.specs.Trail.{book_of}
 use Rattle.hv_trail.specs.Kept.{trail_of}
 use Rattle.hv_trail.specs.Steps.{Note, Done, Step}
@@ -22,7 +23,7 @@ use Rattle.hv_telling.specs.hv_house.specs.Steps.{seen_of, fault_outcome, IsMark
 use Rattle.hv_telling.specs.Telling.{IsToldHouse, IsWhole, StaysWhole, StillOpens, IsTrueNow}
 use Rattle.hv_acts.specs.declared.aborted.Aborted.{Aborted}
 use Rattle.hv_acts.specs.Answers.{EntryFits, HasItsMark}
-use Rattle.hv_acts.specs.Aborting.{AbortStep, is_full}
+use Rattle.hv_acts.specs.Aborting.{AbortStep, is_full, abort_of}
 use Rattle.hv_acts.specs.Meant.{IsCauseTrue}
 use Rattle.hv_acts.proofs.Steps.{lacked, whole-keeps, keeps-behind}
 use Rattle.hv_acts.proofs.Leaves.{noted-leaves}
@@ -63,12 +64,29 @@ room-of state t unended free = by (is_full state) refl
     by true e = absurd (free (record { unended = unended; full = ltb-true _ _ e }))
     by false e = ltb-false profile.entries (load state + 1) e
 
+-- it is its own transaction's
+pub own-abort : (txn : TxnId) (why : Cause) → IsOwnCause why → IsOf txn.0 (entry.Abort txn why)
+own-abort txn (cause.Refused number) own = refl
+own-abort txn (cause.Conflict by table partition) own = refl
+own-abort txn (cause.Request by) own = absurd own
+own-abort txn cause.Full own = refl
+own-abort txn (cause.Twice partition row) own = refl
+own-abort txn (cause.Blocked holder) own = refl
+own-abort txn (cause.ReadFault count) own = refl
+own-abort txn (cause.WriteFault count) own = refl
+own-abort txn (cause.Damaged place) own = refl
+own-abort txn cause.RowLimit own = refl
+own-abort txn cause.PartitionLimit own = refl
+own-abort txn cause.Memory own = refl
+own-abort txn cause.Lost own = refl
+own-abort txn cause.Rollback own = refl
+
 -- ---- its step
 
 module _ {D : Type 0} (told : D → Option Store) (faults : D → ℕ) (txn : TxnId) (why : Cause) where
   pub abort-done : (aborted : Aborted) (before now : House D) → IsWhole told before → IsWhole told now → aborted.at ≡ length (book_of (trail_of before.trail))
       → aborted.cause ≡ why → Step told faults (Note (entry.Abort txn why)) Done (seen_of before) (seen_of now)
-      → AbortStep told faults txn why aborted.text before now (Ok aborted)
+      → AbortStep told faults txn (abort_of why aborted.text) before now (Ok aborted)
   abort-done aborted before now was whole place same step = record {
     running = was.ready.kept.running;
     keeps = whole-keeps told now whole;
@@ -77,20 +95,20 @@ module _ {D : Type 0} (told : D → Option Store) (faults : D → ℕ) (txn : Tx
     leaves = tt;
   }
 
-  pub abort-failed : (line : List ℕ) (fault : HouseFault) (before now : House D) → IsWhole told before → EntryFits (trail_of before.trail) (entry.Abort txn why)
+  pub abort-failed : (line : List ℕ) (fault : HouseFault) (before now : House D) → IsOwnCause why → IsWhole told before → EntryFits (trail_of before.trail) (entry.Abort txn why)
       → StaysWhole told fault now → IsHalted told (entry.Abort txn why) fault before now → HasRisen (faults before.shelf) (faults now.shelf) fault
       → (IsToldHouse told before → StillOpens told now) → now.start ≡ before.start → Step told faults (Note (entry.Abort txn why)) (fault_outcome fault) (seen_of before) (seen_of now)
-      → AbortStep told faults txn why line before now (Err fault)
-  abort-failed line fault before now was fits stays halted risen opens start step = record {
+      → AbortStep told faults txn (abort_of why line) before now (Err fault)
+  abort-failed line fault before now own was fits stays halted risen opens start step = record {
     running = was.ready.kept.running;
     keeps = keeps-behind told before now fault was stays opens start step.closed;
     step = step;
     tells = tt;
-    leaves = noted-leaves told faults txn.0 (entry.Abort txn why) fault before now was.ready.kept.running refl fits halted risen;
+    leaves = noted-leaves told faults txn.0 (entry.Abort txn why) fault before now was.ready.kept.running (own-abort txn why own) tt fits halted risen;
   }
 
   -- memory lacked for its line
-  pub abort-lacks : (line : List ℕ) (house : House D) → IsWhole told house → AbortStep told faults txn why line house house (Err fault.NoMemory)
+  pub abort-lacks : (line : List ℕ) (house : House D) → IsWhole told house → AbortStep told faults txn (abort_of why line) house house (Err fault.NoMemory)
   abort-lacks line house whole = record {
     running = whole.ready.kept.running;
     keeps = whole-keeps told house whole;

@@ -36,7 +36,7 @@ use Rattle.hv_acts.specs.declared.committing.Committed.TheVariants as committed
 use Rattle.hv_acts.specs.declared.fault.ActFault.{ActFault}
 use Rattle.hv_acts.specs.declared.fault.ActFault.TheVariants as act
 use Rattle.hv_acts.specs.Answers.{act_outcome, call_behind, FilesTest, IsLate, EntryFits, EntryStep, HasItsMark}
-use Rattle.hv_acts.specs.Aborting.{AbortStep}
+use Rattle.hv_acts.specs.Aborting.{AbortStep, abort_of}
 use Rattle.hv_acts.specs.Putting.{Runs}
 use Rattle.hv_acts.specs.Committing.{IsOfItsChange, CanBePut, WerePut, conflict_cause, IsConflictOf, IsConflict, HasMet, IsReadyWith, RestsOnCommit, CommitStep}
 use Rattle.hv_acts.specs.Meant.{HasAtMost, RunsWith, IsCommitDue, IsCauseTrue}
@@ -219,7 +219,8 @@ module _ {D : Type 0} (told : D → Option Store) (faults : D → ℕ) (txn : Tx
 
 module _ {D : Type 0} (told : D → Option Store) (faults : D → ℕ) (txn : TxnId) (wrote : List Touch) (name : List ℕ) (places : List Place) where
   pub commit-failed : (why : ActFault) (before now : House D) → IsClear (trail_of before.trail) txn wrote
-      → EntryStep {T = Unit {0}} told faults txn (entry.Commit txn wrote) before now (Err why) → CommitStep told faults txn wrote name places before now (Err why)
+      → EntryStep {T = Unit {0}} told faults txn (entry.Commit txn wrote) before now (Err why)
+      → CommitStep told faults (record { txn = txn; wrote = wrote; name = name; put = places }) before now (Err why)
   commit-failed why before now clear s = record {
     keeps = s.keeps;
     step = commit-behind told faults txn wrote (seen_of before) (seen_of now) why s.step;
@@ -230,7 +231,8 @@ module _ {D : Type 0} (told : D → Option Store) (faults : D → ℕ) (txn : Tx
 
   pub commit-done : (at : ℕ) (before now : House D) → at ≡ length (book_of (trail_of before.trail)) → broken (Txn txn) (trail_of before.trail) ≡ None
       → WerePut (trail_of before.trail) txn places → HasAtMost (trail_of before.trail) txn 1
-      → EntryStep {T = Unit {0}} told faults txn (entry.Commit txn wrote) before now (Ok tt) → CommitStep told faults txn wrote name places before now (Ok (committed.At at))
+      → EntryStep {T = Unit {0}} told faults txn (entry.Commit txn wrote) before now (Ok tt)
+      → CommitStep told faults (record { txn = txn; wrote = wrote; name = name; put = places }) before now (Ok (committed.At at))
   commit-done at before now place unbroken put most s = record {
     keeps = s.keeps;
     step = s.step;
@@ -239,7 +241,7 @@ module _ {D : Type 0} (told : D → Option Store) (faults : D → ℕ) (txn : Tx
   }
 
   pub commit-broken : (put : Bool) (count : ℕ) (house : House D) → IsWhole told house → broken (Txn txn) (trail_of house.trail) ≡ Some (put, count)
-      → CommitStep told faults txn wrote name places house house (Err (act.Broken put count))
+      → CommitStep told faults (record { txn = txn; wrote = wrote; name = name; put = places }) house house (Err (act.Broken put count))
   commit-broken put count house whole is = record {
     keeps = whole-keeps told house whole;
     step = asked told faults (seen_of house);
@@ -248,7 +250,8 @@ module _ {D : Type 0} (told : D → Option Store) (faults : D → ℕ) (txn : Tx
   }
 
   -- memory lacked before the call
-  pub commit-lacks : (house : House D) → IsWhole told house → CommitStep told faults txn wrote name places house house (Err (act.House fault.NoMemory))
+  pub commit-lacks : (house : House D) → IsWhole told house → CommitStep told faults (record { txn = txn; wrote = wrote; name = name; put = places }) house
+      house (Err (act.House fault.NoMemory))
   commit-lacks house whole = record {
     keeps = whole-keeps told house whole;
     step = record {
@@ -266,7 +269,8 @@ module _ {D : Type 0} (told : D → Option Store) (faults : D → ℕ) (txn : Tx
 
   -- a test refused it
   pub commit-late : (why : ActFault) (house : House D) → IsWhole told house → IsLate (trail_of house.trail) txn why
-      → (RestsOnCommit (trail_of house.trail) txn wrote places → ⊥) → CommitStep told faults txn wrote name places house house (Err why)
+      → (RestsOnCommit (trail_of house.trail) txn wrote places → ⊥) → CommitStep told faults (record { txn = txn; wrote = wrote; name = name; put = places })
+      house house (Err why)
   commit-late why house whole late not = record {
     keeps = whole-keeps told house whole;
     step = asked-late told faults (seen_of house) (trail_of house.trail) txn (Commit txn wrote) why late;
@@ -275,14 +279,15 @@ module _ {D : Type 0} (told : D → Option Store) (faults : D → ℕ) (txn : Tx
   }
 
   pub commit-not-running : (why : ActFault) (house : House D) → IsWhole told house → IsLate (trail_of house.trail) txn why
-      → (RunsWith (trail_of house.trail) txn 1 → ⊥) → CommitStep told faults txn wrote name places house house (Err why)
+      → (RunsWith (trail_of house.trail) txn 1 → ⊥) → CommitStep told faults (record { txn = txn; wrote = wrote; name = name; put = places }) house house
+      (Err why)
   commit-not-running why house whole late not =
       commit-late why house whole late
       (λ is. not (ready-runs wrote (numbered (state_at (trail_of house.trail)).transactions txn.0) is.ready, is.alone))
 
   module _ (found : Conflict) (before now : House D) (met : HasMet (trail_of before.trail) txn wrote name found) where
-    pub conflict-failed : (why : HouseFault) → AbortStep told faults txn found.cause found.aborted.text before now (Err why)
-        → CommitStep told faults txn wrote name places before now (Err (act.House why))
+    pub conflict-failed : (why : HouseFault) → AbortStep told faults txn (abort_of found.cause found.aborted.text) before now (Err why)
+        → CommitStep told faults (record { txn = txn; wrote = wrote; name = name; put = places }) before now (Err (act.House why))
     conflict-failed why s = record {
       keeps = s.keeps;
       step =
@@ -292,8 +297,8 @@ module _ {D : Type 0} (told : D → Option Store) (faults : D → ℕ) (txn : Tx
       leaves = s.leaves;
     }
 
-    pub conflict-done : (aborted : Aborted) → AbortStep told faults txn found.cause found.aborted.text before now (Ok aborted)
-        → CommitStep told faults txn wrote name places before now (Ok (committed.Aborted aborted))
+    pub conflict-done : (aborted : Aborted) → AbortStep told faults txn (abort_of found.cause found.aborted.text) before now (Ok aborted)
+        → CommitStep told faults (record { txn = txn; wrote = wrote; name = name; put = places }) before now (Ok (committed.Aborted aborted))
     conflict-done aborted s = record {
       keeps = s.keeps;
       step = subst (λ (of : Cause). Step told faults (Note (entry.Abort txn of)) Done (seen_of before) (seen_of now)) (sym s.tells.cause_is) s.step;

@@ -31,7 +31,7 @@ use Rattle.hv_acts.specs.declared.fault.ActFault.{ActFault}
 use Rattle.hv_acts.specs.declared.fault.ActFault.TheVariants as act
 use Rattle.hv_book.specs.Briefs.{given_while, given_at}
 use Rattle.hv_acts.specs.Answers.{call_behind, act_outcome, NoTest, IsLate, id_behind, next_id, EntryFits, EntryStep, aborted_line}
-use Rattle.hv_acts.specs.Aborting.{AbortStep, is_full}
+use Rattle.hv_acts.specs.Aborting.{AbortStep, is_full, abort_of}
 use Rattle.hv_acts.specs.Giving.{to_give, RestsOnId, GiveStep}
 use Rattle.hv_acts.specs.Meant.{HasAtMost, RunsWith, IsIdDue, IsCauseTrue}
 use Rattle.hv_acts.proofs.Steps.{whole-keeps}
@@ -105,7 +105,8 @@ lack-true trail txn table runs due =
 module _ {D : Type 0} (told : D → Option Store) (faults : D → ℕ) (txn : TxnId) (table : TableId) where
   pub give-aborted : (aborted : Aborted) (before now : House D) → RunsWith (trail_of before.trail) txn 0
       → Of (state_at (trail_of before.trail)) txn.0 (FullFits profile (state_at (trail_of before.trail)))
-      → AbortStep told faults txn cause.Full (aborted_line cause.Full) before now (Ok aborted) → GiveStep told faults txn table before now (Ok (given.Aborted aborted))
+      → AbortStep told faults txn (abort_of cause.Full (aborted_line cause.Full)) before now (Ok aborted)
+      → GiveStep told faults txn table before now (Ok (given.Aborted aborted))
   give-aborted aborted before now runs full s = record {
     keeps = s.keeps;
     step = subst (λ (why : Cause). Step told faults (Note (entry.Abort txn why)) Done (seen_of before) (seen_of now)) (sym s.tells.cause_is) s.step;
@@ -119,7 +120,8 @@ module _ {D : Type 0} (told : D → Option Store) (faults : D → ℕ) (txn : Tx
   }
 
   pub give-halted : (why : HouseFault) (before now : House D) → Of (state_at (trail_of before.trail)) txn.0 (FullFits profile (state_at (trail_of before.trail)))
-      → AbortStep told faults txn cause.Full (aborted_line cause.Full) before now (Err why) → GiveStep told faults txn table before now (Err (act.House why))
+      → AbortStep told faults txn (abort_of cause.Full (aborted_line cause.Full)) before now (Err why)
+      → GiveStep told faults txn table before now (Err (act.House why))
   give-halted why before now full s = record {
     keeps = s.keeps;
     step =

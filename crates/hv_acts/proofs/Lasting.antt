@@ -25,6 +25,7 @@ use Rattle.hv_trail.proofs.LastingLaws.{goes-on-front, lasts, given-keeps}
 use Rattle.hv_acts.specs.Answers.{HasItsMark}
 use Rattle.hv_acts.specs.Putting.{HasIdFor}
 use Rattle.hv_acts.specs.Committing.{IsOfItsChange, CanBePut}
+use Rattle.hv_acts.proofs.Passed.{asked-lasts}
 use Rattle.hv_acts.specs.Meant.{HasMeant, IsFileMeant, IsIdDue, IsCommitDue, IsMakeMeant, IsDropMeant, IsAbortDue}
 
 same-info : (info : TableInfo) (t u : Table) → TableLater t u → t.info ≡ info → u.info ≡ info
@@ -115,8 +116,15 @@ module _ (before now : List TrailItem) (front : IsFront before now) where
   }
 
   pub commit-lasts : (txn : TxnId) (wrote : List Touch) (places : List Place) → IsCommitDue before txn wrote places → IsCommitDue now txn wrote places
+  unfolding meant-lasts
   commit-lasts txn wrote places (inl is) =
-      inl (record { means = is.means; meant_it = meant-lasts txn [] is.means is.meant_it; touches = is.touches; none = is.none })
+      inl (record {
+        means = is.means;
+        meant_it = meant-lasts txn [] is.means is.meant_it;
+        touches = is.touches;
+        none = is.none;
+        asked = asked-lasts before now front txn is.meant_it.was.place is.meant_it.was.said is.means is.asked;
+      })
   commit-lasts txn wrote places (inr is) = inr (record {
     info = is.info;
     effect = is.effect;

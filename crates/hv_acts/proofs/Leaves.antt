@@ -23,8 +23,9 @@ use Rattle.hv_acts.specs.declared.fault.BeginFault.{BeginFault}
 use Rattle.hv_acts.specs.declared.fault.BeginFault.TheVariants as hindered
 use Rattle.hv_acts.specs.declared.fault.ActFault.{ActFault}
 use Rattle.hv_acts.specs.declared.fault.ActFault.TheVariants as act
-use Rattle.hv_acts.specs.Answers.{IsLate, EntryFits, act_outcome, answer_outcome, FaultLeaves, WhyLeaves, AnswerLeaves, FaultRises}
+use Rattle.hv_acts.specs.Answers.{IsLate, EntryFits, act_outcome, answer_outcome, FaultLeaves, WhyLeaves, AnswerLeaves, FaultRises, OpensNone}
 use Rattle.hv_acts.specs.Beginning.{begin_outcome, BeginLeaves}
+use Rattle.hv_acts.specs.Waiting.{OpenLeaves}
 use Rattle.hv_acts.proofs.Steps.{book-is}
 
 -- nothing more is noted
@@ -40,20 +41,21 @@ still-open false is e open_ shut = true≢false (sym shut ∙ e)
 module _ {D : Type 0} (told : D → Option Store) (faults : D → ℕ) where
   -- one entry was to be noted
   pub noted-leaves : (txn : ℕ) (event : Entry) (why : HouseFault) (before now : House D) → before.trail.closed ≡ false → IsOf txn event
-      → EntryFits (trail_of before.trail) event → IsHalted told event why before now → HasRisen (faults before.shelf) (faults now.shelf) why
+      → OpensNone event → EntryFits (trail_of before.trail) event → IsHalted told event why before now → HasRisen (faults before.shelf) (faults now.shelf) why
       → FaultLeaves told faults txn (seen_of before) (seen_of now) why
-  noted-leaves txn event fault.Store before now running of_it fits halted risen = λ open_. (
+  noted-leaves txn event fault.Store before now running of_it unopened fits halted risen = λ open_. (
     record {
       further = event ∷ [];
       of_it = (of_it, tt);
+      unopened = (unopened, tt);
       few = omega arith;
       fit = (fits, tt);
       leaves = subst (λ (book : List Entry). Leaves fault.Store (event ∷ []) (told now.shelf) book) (sym (book-is before)) halted.leaves;
     },
     risen,
   )
-  noted-leaves txn event fault.NoMemory before now running of_it fits halted risen = running
-  noted-leaves txn event (fault.Failed count) before now running of_it fits halted risen = running
+  noted-leaves txn event fault.NoMemory before now running of_it unopened fits halted risen = running
+  noted-leaves txn event (fault.Failed count) before now running of_it unopened fits halted risen = running
 
   -- no entry was to be noted
   pub held-leaves : (txn : ℕ) (why : HouseFault) (before now : House D) → before.trail.closed ≡ false → entries_of now ≡ entries_of before
@@ -62,6 +64,7 @@ module _ {D : Type 0} (told : D → Option Store) (faults : D → ℕ) where
     record {
       further = [];
       of_it = tt;
+      unopened = tt;
       few = omega arith;
       fit = tt;
       leaves = no-more (told now.shelf) _ (subst (Holds (told now.shelf)) (same ∙ sym (book-is before)) stays);
@@ -111,6 +114,18 @@ module _ {D : Type 0} (told : D → Option Store) (faults : D → ℕ) where
   begin-rises asking (Err (hindered.House fault.Store)) before now leaves closed was is = (leaves was).1
   begin-rises asking (Err (hindered.House fault.NoMemory)) before now leaves closed was is = absurd (still-open before.closed now.closed closed was is)
   begin-rises asking (Err (hindered.House (fault.Failed count))) before now leaves closed was is = absurd leaves
+
+  pub open-rises : (asking : Asking) (result : Result TxnId ActFault) (before now : HouseSeen D) → OpenLeaves told faults asking before now result
+      → now.closed ≡ before.closed || shuts (answer_outcome result) → before.closed ≡ false → now.closed ≡ true → Rose (faults before.shelf) (faults now.shelf)
+  open-rises asking (Ok txn) before now leaves closed was is = absurd (still-open before.closed now.closed closed was is)
+  open-rises asking (Err (act.Ended at)) before now leaves closed was is = absurd (still-open before.closed now.closed closed was is)
+  open-rises asking (Err (act.Full entries)) before now leaves closed was is = absurd (still-open before.closed now.closed closed was is)
+  open-rises asking (Err (act.Held by)) before now leaves closed was is = absurd (still-open before.closed now.closed closed was is)
+  open-rises asking (Err (act.Broken put count)) before now leaves closed was is = absurd (still-open before.closed now.closed closed was is)
+  open-rises asking (Err act.Unfit) before now leaves closed was is = absurd (still-open before.closed now.closed closed was is)
+  open-rises asking (Err (act.House fault.Store)) before now leaves closed was is = (leaves was).1
+  open-rises asking (Err (act.House fault.NoMemory)) before now leaves closed was is = absurd (still-open before.closed now.closed closed was is)
+  open-rises asking (Err (act.House (fault.Failed count))) before now leaves closed was is = absurd (still-open before.closed now.closed closed was is)
 
 -- a call on files that failed has its count
 pub rises-by : {D : Type 0} (faults : D → ℕ) (before : HouseSeen D) (count : ℕ) (why : HouseFault) → HasRisen (faults before.shelf) count why → FaultRises faults before why

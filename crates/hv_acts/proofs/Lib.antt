@@ -9,6 +9,7 @@ pub mod Puts
 pub mod Begins
 pub mod Opens
 pub mod Meant
+pub mod Passed
 pub mod Truths
 pub mod Makes
 pub mod Drops
@@ -19,3 +20,6 @@ pub mod Readings
 pub mod ReadSteps
 pub mod Countings
 pub mod Showings
+pub mod Requests
+pub mod Endings
+pub mod Mine

@@ -123,7 +123,7 @@ module _ (book more : List Entry) (asking : Asking) (txn place : ℕ) (said : St
     is = λ e. ap (λ (m : Option Meaning). running asking m snapshot given) means_it ∙ ap (running asking (Some means) snapshot) (sym (append-nil given));
   }
 
-  meant-still : meant (take place (book ++ more)) said ≡ Some means
+  pub meant-still : meant (take place (book ++ more)) said ≡ Some means
   meant-still = ap (λ (front : List Entry). meant front said) (take-append-le place book more (let early = way.early in omega (arith, early))) ∙ means_it
 
   goes : (t : Transaction) → numbered (state_of (book ++ more)).transactions txn ≡ Some t → GoesOn asking means snapshot given t
@@ -132,7 +132,7 @@ module _ (book more : List Entry) (asking : Asking) (txn place : ℕ) (said : St
       (subst (λ (s : State). IsSomeAnd (numbered s.transactions txn) (GoesOn asking means snapshot given)) (sym (fold-append after nothing_yet book more))
       (entries-go asking means snapshot given more (state_of book) txn (running asking (meant (take place book) said) snapshot given) way.here goes-first))
 
-  way-still : (t : Transaction) → numbered (state_of (book ++ more)).transactions txn ≡ Some t → t.ending ≡ None
+  pub way-still : (t : Transaction) → numbered (state_of (book ++ more)).transactions txn ≡ Some t → t.ending ≡ None
       → (ids : List (ℕ × ℕ)) × IsUnderWay (book ++ more) asking txn place said (given ++ ids)
   way-still t here unended =
       let on = goes t here in (
@@ -155,7 +155,7 @@ pub record IsOnWay (book : List Entry) (txn : TxnId) (given : List (ℕ × ℕ))
   pub under_way : IsUnderWay book asking txn.0 place said (given ++ ids)
   pub means_it : meant (take place book) said ≡ Some means
 
-pub on-way : (trail : List TrailItem) (txn : TxnId) (given : List (ℕ × ℕ)) (means : Meaning) (t : Transaction) → HasMeant trail txn given means
+abbrev pub on-way : (trail : List TrailItem) (txn : TxnId) (given : List (ℕ × ℕ)) (means : Meaning) (t : Transaction) → HasMeant trail txn given means
     → numbered (state_at trail).transactions txn.0 ≡ Some t → t.ending ≡ None → IsOnWay (book_of trail) txn given means t
 on-way trail txn given means t has here unended =
     let books : book_of trail ≡ book_of has.then_ ++ book_of has.front.more = ap book_of has.front.is ∙ book-append has.then_ has.front.more in

@@ -28,7 +28,7 @@ use Rattle.hv_telling.specs.hv_house.specs.Steps.{seen_of, fault_outcome}
 use Rattle.hv_telling.specs.Telling.{IsToldHouse, IsWhole, StaysWhole, StillOpens}
 use Rattle.hv_acts.specs.declared.fault.ActFault.{ActFault}
 use Rattle.hv_acts.specs.declared.fault.ActFault.TheVariants as act
-use Rattle.hv_acts.specs.Answers.{act_outcome, call_behind, Test, NoTest, IsLate, IsWhy, HasNotEnded, id_behind, next_id, next_table, EntryFits, EntryStep, WhyRises}
+use Rattle.hv_acts.specs.Answers.{act_outcome, call_behind, Test, NoTest, IsLate, IsWhy, HasNotEnded, id_behind, next_id, next_table, EntryFits, EntryStep, WhyRises, OpensNone}
 use Rattle.hv_acts.proofs.Steps.{book-is, asked, whole-keeps, keeps-behind}
 use Rattle.hv_acts.proofs.Leaves.{noted-leaves, late-leaves}
 
@@ -72,7 +72,7 @@ late-rises faults seen trail txn (act.House why) late = absurd late
 
 -- ---- how far its transaction has come
 
-state-there : {D : Type 0} (house : House D) (txn : TxnId) (entries : List Entry) (standing : TxnState) → entries ≡ entries_of house → standing ≡ state_in (state_of entries) txn.0
+pub state-there : {D : Type 0} (house : House D) (txn : TxnId) (entries : List Entry) (standing : TxnState) → entries ≡ entries_of house → standing ≡ state_in (state_of entries) txn.0
     → state_in (state_at (trail_of house.trail)) txn.0 ≡ standing
 state-there house txn entries standing are is = ap (λ (book : List Entry). state_in (state_of book) txn.0) (book-is house ∙ sym are) ∙ sym is
 
@@ -155,13 +155,14 @@ module _ {D : Type 0} (told : D → Option Store) (faults : D → ℕ) (txn : Tx
     leaves = late-leaves told faults (trail_of house.trail) txn why (seen_of house) (seen_of house) late whole.ready.kept.running;
   }
 
-  pub step-failed : {T : Type 0} (why : HouseFault) (before now : House D) → IsWhole told before → IsOf txn.0 event → EntryFits (trail_of before.trail) event
+  pub step-failed : {T : Type 0} (why : HouseFault) (before now : House D) → IsWhole told before → IsOf txn.0 event → OpensNone event
+      → EntryFits (trail_of before.trail) event
       → StaysWhole told why now → IsHalted told event why before now → HasRisen (faults before.shelf) (faults now.shelf) why
       → (IsToldHouse told before → StillOpens told now) → now.start ≡ before.start
       → Step told faults (Note event) (fault_outcome why) (seen_of before) (seen_of now) → EntryStep {T = T} told faults txn event before now (Err (act.House why))
-  step-failed why before now was of_it fits stays halted risen opens start step = record {
+  step-failed why before now was of_it unopened fits stays halted risen opens start step = record {
     keeps = keeps-behind told before now why was stays opens start step.closed;
     step = step;
     answers = tt;
-    leaves = noted-leaves told faults txn.0 event why before now was.ready.kept.running of_it fits halted risen;
+    leaves = noted-leaves told faults txn.0 event why before now was.ready.kept.running of_it unopened fits halted risen;
   }

@@ -1,5 +1,5 @@
 -- A transaction that an act opens, and what its Start waits for.
-use Rattle.std.proofs.Common.{◌≡◌, ℕ, ◌↔◌, true, false, Option, Some, None, Ok, Err, IsTrue, List, length, true≢false, eqb-true, eq-eqb, refl, sym, ap, ◌∙◌, subst}
+use Rattle.std.proofs.Common.{◌≡◌, ℕ, ◌↔◌, true, false, Option, Some, None, Ok, Err, IsTrue, List, [], ◌∷◌, length, true≢false, eqb-true, eq-eqb, refl, sym, ap, ◌∙◌, subst}
 use Rattle.std.specs.Prelude.{◌==◌, ◌&&◌, IsSomeAnd}
 use Rattle.hv_base.specs.declared.ids.TxnId.{TxnId}
 use Rattle.hv_shelf.specs.Disk.{Store}
@@ -19,17 +19,18 @@ use Rattle.hv_trail.specs.Trail.{book_of}
 use Rattle.hv_trail.specs.Kept.{trail_of}
 use Rattle.hv_trail.specs.Steps.{Note, Done, Step}
 use Rattle.hv_telling.specs.hv_house.specs.declared.fault.HouseFault.{HouseFault}
+use Rattle.hv_telling.specs.hv_house.specs.declared.fault.HouseFault.TheVariants as fault
 use Rattle.hv_telling.specs.hv_house.specs.declared.house.House.{House}
 use Rattle.hv_telling.specs.hv_house.specs.Faults.{HasRisen}
-use Rattle.hv_telling.specs.hv_house.specs.House.{entries_of, IsReady, IsHalted}
+use Rattle.hv_telling.specs.hv_house.specs.House.{entries_of, IsReady, Leaves, IsHalted}
 use Rattle.hv_locks.specs.declared.table.LockState.TheVariants.{Granted, Waiting}
 use Rattle.hv_telling.specs.hv_house.specs.Asking.{holder_against, lock_state}
 use Rattle.hv_telling.specs.Telling.{IsToldHouse, IsWhole, StaysWhole, StillOpens}
 use Rattle.hv_telling.specs.hv_house.specs.Steps.{seen_of, fault_outcome}
 use Rattle.hv_acts.specs.declared.fault.ActFault.TheVariants as act
-use Rattle.hv_acts.specs.Waiting.{next_txn, next_opened, IsHeld, OpenStep}
+use Rattle.hv_acts.specs.Answers.{EntryFits}
+use Rattle.hv_acts.specs.Waiting.{next_txn, next_opened, IsHeld, OpenLeaves, OpenStep}
 use Rattle.hv_acts.proofs.Steps.{book-is, asked, whole-keeps, keeps-behind}
-use Rattle.hv_acts.proofs.Leaves.{noted-leaves}
 use Rattle.hv_acts.proofs.Notes.{fits-trail}
 
 -- ---- what a Start waits for
@@ -122,7 +123,8 @@ module _ {D : Type 0} (told : D → Option Store) (faults : D → ℕ) (session 
   event-is house next = λ i. entry.Opened (next-of house txn next i) session number text
 
   pub open-done : (before now : House D) → IsWhole told before → IsWhole told now → txn.0 ≡ next_number (entries_of before) → Fits profile (state_of (entries_of before)) event
-      → Step told faults (Note event) Done (seen_of before) (seen_of now) → OpenStep told faults session number text before now (Ok txn)
+      → Step told faults (Note event) Done (seen_of before) (seen_of now)
+      → OpenStep told faults (record { session = session; number = number; text = text }) before now (Ok txn)
   open-done before now was whole next fits step = record {
     keeps = whole-keeps told now whole;
     step = subst (λ (e : Entry). Step told faults (Note e) Done (seen_of before) (seen_of now)) (event-is before next) step;
@@ -135,7 +137,7 @@ module _ {D : Type 0} (told : D → Option Store) (faults : D → ℕ) (session 
 
   pub open-full : (tree : Stmt) (entries : ℕ) (house : House D) → IsWhole told house → Runs text tree → txn.0 ≡ next_number (entries_of house)
       → entries ≡ length (book_of (trail_of house.trail)) → (Fits profile (state_of (entries_of house)) event → ⊥)
-      → OpenStep told faults session number text house house (Err (act.Full entries))
+      → OpenStep told faults (record { session = session; number = number; text = text }) house house (Err (act.Full entries))
   open-full tree entries house whole runs next count not = record {
     keeps = whole-keeps told house whole;
     step = asked told faults (seen_of house);
@@ -150,16 +152,30 @@ module _ {D : Type 0} (told : D → Option Store) (faults : D → ℕ) (session 
     leaves = whole.ready.kept.running;
   }
 
+  -- what it may have left
+  opening-leaves : (why : HouseFault) (before now : House D) → before.trail.closed ≡ false → txn.0 ≡ next_number (entries_of before)
+      → Fits profile (state_of (entries_of before)) event → IsHalted told event why before now → HasRisen (faults before.shelf) (faults now.shelf) why
+      → OpenLeaves told faults (record { session = session; number = number; text = text }) (seen_of before) (seen_of now) (Err (act.House why))
+  opening-leaves fault.Store before now running next fits halted risen = λ open_. (
+    record {
+      fits = subst (EntryFits (trail_of before.trail)) (event-is before next) (fits-trail before event fits);
+      leaves =
+          subst (λ (e : Entry). Leaves fault.Store (e ∷ []) (told now.shelf) (book_of (trail_of before.trail))) (event-is before next)
+          (subst (λ (book : List Entry). Leaves fault.Store (event ∷ []) (told now.shelf) book) (sym (book-is before)) halted.leaves);
+    },
+    risen,
+  )
+  opening-leaves fault.NoMemory before now running next fits halted risen = running
+  opening-leaves (fault.Failed count) before now running next fits halted risen = running
+
   pub open-failed : (why : HouseFault) (before now : House D) → IsWhole told before → txn.0 ≡ next_number (entries_of before)
       → Fits profile (state_of (entries_of before)) event → StaysWhole told why now → IsHalted told event why before now
       → HasRisen (faults before.shelf) (faults now.shelf) why → (IsToldHouse told before → StillOpens told now) → now.start ≡ before.start
       → Step told faults (Note event) (fault_outcome why) (seen_of before) (seen_of now)
-      → OpenStep told faults session number text before now (Err (act.House why))
+      → OpenStep told faults (record { session = session; number = number; text = text }) before now (Err (act.House why))
   open-failed why before now was next fits stays halted risen opens start step = record {
     keeps = keeps-behind told before now why was stays opens start step.closed;
     step = subst (λ (e : Entry). Step told faults (Note e) (fault_outcome why) (seen_of before) (seen_of now)) (event-is before next) step;
     answers = tt;
-    leaves =
-        noted-leaves told faults (next_number (book_of (trail_of before.trail))) event why before now was.ready.kept.running
-        (ap Some (next ∙ ap next_number (sym (book-is before)))) (fits-trail before event fits) halted risen;
+    leaves = opening-leaves why before now was.ready.kept.running next fits halted risen;
   }

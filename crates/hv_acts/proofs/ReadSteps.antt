@@ -124,7 +124,8 @@ module _ {D : Type 0} (told : D → Option Store) (faults : D → ℕ) (by : Txn
   pub list-done : (place : ℕ) (table : TableId) (listing : Listing) (before now : House D) → IsWhole told before → IsReady told now
       → listing.list ≡ ids_in (state_of (take place (entries_of before))) table.0
       → Tells (told before.shelf) (λ s. AreTaken table listing.list s.tree listing.inserts.items listing.deletes.items)
-      → Step told faults call Done (seen_of before) (seen_of now) → ListStep told faults by place table before now (Ok listing)
+      → Step told faults call Done (seen_of before) (seen_of now) → ListStep told faults (record { by = by; place = place; table = table }) before now
+      (Ok listing)
   list-done place table listing before now was ready list files step = record {
     keeps = keeps-ready Done before now was ready step;
     step = step;
@@ -140,7 +141,8 @@ module _ {D : Type 0} (told : D → Option Store) (faults : D → ℕ) (by : Txn
 
   pub list-failed : (place : ℕ) (table : TableId) (why : HouseFault) (before now : House D) → IsWhole told before → entries_of now ≡ entries_of before
       → StaysPut told why now → HasRisen (faults before.shelf) (faults now.shelf) why
-      → Step told faults call (fault_outcome why) (seen_of before) (seen_of now) → ListStep told faults by place table before now (Err (act.House why))
+      → Step told faults call (fault_outcome why) (seen_of before) (seen_of now)
+      → ListStep told faults (record { by = by; place = place; table = table }) before now (Err (act.House why))
   list-failed place table why before now was same stays risen step = record {
     keeps = keeps-read why before now was stays step;
     step = step;

@@ -5,12 +5,14 @@ use Rattle.std.specs.List.{AllByRecursion}
 use Rattle.hv_base.specs.declared.ids.TxnId.{TxnId}
 use Rattle.hv_history.specs.declared.entry.Entry.{Entry}
 use Rattle.hv_history.specs.declared.entry.Entry.TheVariants as entry
+use Rattle.hv_history.specs.declared.entry.Cause.TheVariants as cause
 use Rattle.hv_history.specs.declared.state.Ending.{Ending}
+use Rattle.hv_history.specs.declared.state.Ending.TheVariants.{Aborted}
 use Rattle.hv_history.specs.declared.state.Snapshot.{Snapshot}
 use Rattle.hv_history.specs.declared.state.Transaction.{Transaction}
-use Rattle.hv_history.specs.State.{State, numbered, changed, first_of, while_open, unless_ended, started, given_id, opened, acted, after}
+use Rattle.hv_history.specs.State.{State, numbered, changed, first_of, while_open, unless_ended, started, given_id, ended, opened, acted, after}
 use Rattle.hv_history.specs.Legal.{Of, IsRunning, IsWaiting, is_started}
-use Rattle.hv_history.proofs.LastingLaws.{kept-more, kept-changed}
+use Rattle.hv_history.proofs.LastingLaws.{kept-more, kept-changed, same-changed}
 use Rattle.hv_meta.specs.States.{state_in, state_by, transaction_state}
 use Rattle.hv_trail.specs.declared.trail.TrailItem.{TrailItem}
 use Rattle.hv_trail.specs.Trail.{book_of, state_at}
@@ -53,7 +55,7 @@ changed-runs f step xs k n t e runs =
     moved (numbered (changed (while_open f) xs k) n) t runs
     (kept-changed (λ t u. IsRunning t → IsRunning u) same (while_open f) (while-open f step) xs k n t e)
 
-one-more : (state : State) (event : Entry) (n : ℕ) (t : Transaction) → IsNoEnd event → numbered state.transactions n ≡ Some t → IsRunning t
+one-more : (state : State) (event : Entry) (n : ℕ) (t : Transaction) → IsNoEnd n event → numbered state.transactions n ≡ Some t → IsRunning t
     → IsSomeAnd (numbered (after state event).transactions n) IsRunning
 unfolding acted
 one-more state (entry.Opened txn session number text) n t stays e runs =
@@ -62,7 +64,10 @@ one-more state (entry.Opened txn session number text) n t stays e runs =
 one-more state (entry.Start txn statement) n t stays e runs = changed-runs (started state statement) (start-runs state statement) state.transactions txn.0 n t e runs
 one-more state (entry.Given txn table write) n t stays e runs = changed-runs (given_id table.0 write.0) (give-runs table.0 write.0) state.transactions txn.0 n t e runs
 one-more state (entry.Commit txn wrote) n t stays e runs = absurd stays
-one-more state (entry.Abort txn cause) n t stays e runs = absurd stays
+one-more state (entry.Abort txn (cause.Request by)) n t stays e runs =
+    there (numbered (changed (while_open (ended (Aborted state.entries (cause.Request by)))) state.transactions txn.0) n) t
+    (same-changed (while_open (ended (Aborted state.entries (cause.Request by)))) state.transactions txn.0 n stays ∙ e) runs
+one-more state (entry.Abort txn why) n t stays e runs = absurd stays
 one-more state (entry.Create txn table) n t stays e runs = absurd stays
 one-more state (entry.Drop txn table) n t stays e runs = absurd stays
 one-more state (entry.Boot run) n t stays e runs = there (numbered state.transactions n) t e runs
@@ -83,14 +88,14 @@ here : (o : Option Transaction) (P : Type 0) → IsSomeAnd o IsRunning → ((t :
 here None P runs go = absurd runs
 here (Some t) P runs go = go t refl runs
 
-all-more : (events : List Entry) (state : State) (n : ℕ) → AllByRecursion IsNoEnd events → IsSomeAnd (numbered state.transactions n) IsRunning
+all-more : (events : List Entry) (state : State) (n : ℕ) → AllByRecursion (IsNoEnd n) events → IsSomeAnd (numbered state.transactions n) IsRunning
     → IsSomeAnd (numbered (fold after state events).transactions n) IsRunning
 all-more [] state n none runs = runs
 all-more (event ∷ events) state n none runs =
     here (numbered state.transactions n) (IsSomeAnd (numbered (fold after (after state event) events).transactions n) IsRunning) runs
     (λ t e is. all-more events (after state event) n none.1 (one-more state event n t none.0 e is))
 
-pub runs-on : (trail items : List TrailItem) (txn : TxnId) → Of (state_at trail) txn.0 IsRunning → AllByRecursion IsNoEnd (book_of items)
+pub runs-on : (trail items : List TrailItem) (txn : TxnId) → Of (state_at trail) txn.0 IsRunning → AllByRecursion (IsNoEnd txn.0) (book_of items)
     → Of (state_at (trail ++ items)) txn.0 IsRunning
 runs-on trail items txn runs none =
     subst (λ (s : State). IsSomeAnd (numbered s.transactions txn.0) IsRunning) (sym (state-append trail items))

@@ -26,6 +26,9 @@ short_drop txn table = grind (arith, length-append, length-eight)
 pub short_full : (txn : TxnId) → IsSmall (entry.Abort txn cause.Full)
 short_full txn = grind (arith, length-append, length-eight)
 
+pub short_request : (txn by : TxnId) → IsSmall (entry.Abort txn (cause.Request by))
+short_request txn by = grind (arith, length-append, length-eight)
+
 pub short_blocked : (txn holder : TxnId) → IsSmall (entry.Abort txn (cause.Blocked holder))
 short_blocked txn holder = grind (arith, length-append, length-eight)
 

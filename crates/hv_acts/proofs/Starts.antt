@@ -26,7 +26,7 @@ use Rattle.hv_acts.specs.declared.starting.Started.TheVariants as started
 use Rattle.hv_acts.specs.declared.fault.ActFault.{ActFault}
 use Rattle.hv_acts.specs.declared.fault.ActFault.TheVariants as act
 use Rattle.hv_acts.specs.Answers.{call_behind, act_outcome, NoTest, StartTest, EntryFits, EntryStep, aborted_line}
-use Rattle.hv_acts.specs.Aborting.{AbortStep, is_full}
+use Rattle.hv_acts.specs.Aborting.{AbortStep, is_full, abort_of}
 use Rattle.hv_acts.specs.Starting.{start_entry, entry_to_start, to_start, WaitsWithoutRoom, WaitsInFull, IsShort, IsInItsWay, StartOrAbortStep}
 use Rattle.hv_acts.specs.Waiting.{IsHeld, StartStep}
 use Rattle.hv_acts.specs.Meant.{IsCauseTrue, RestsOnStart}
@@ -243,7 +243,8 @@ module _ {D : Type 0} (told : D → Option Store) (faults : D → ℕ) (txn : Tx
   -- ---- the step of one that starts or is aborted
 
   pub stop-aborted : (why : Cause) (aborted : Aborted) (before now : House D) → IsInItsWay (trail_of before.trail) txn why
-      → AbortStep told faults txn why (aborted_line why) before now (Ok aborted) → StartOrAbortStep told faults txn before now (Ok (started.Aborted aborted))
+      → AbortStep told faults txn (abort_of why (aborted_line why)) before now (Ok aborted)
+      → StartOrAbortStep told faults txn before now (Ok (started.Aborted aborted))
   stop-aborted why aborted before now way s = record {
     keeps = s.keeps;
     step = subst (λ (w : Cause). Step told faults (Note (entry.Abort txn w)) Done (seen_of before) (seen_of now)) (sym s.tells.cause_is) s.step;
@@ -255,7 +256,7 @@ module _ {D : Type 0} (told : D → Option Store) (faults : D → ℕ) (txn : Tx
   }
 
   pub stop-halted : (why : Cause) (fault : HouseFault) (before now : House D) → to_start (trail_of before.trail) txn ≡ entry.Abort txn why
-      → AbortStep told faults txn why (aborted_line why) before now (Err fault) → StartOrAbortStep told faults txn before now (Err (act.House fault))
+      → AbortStep told faults txn (abort_of why (aborted_line why)) before now (Err fault) → StartOrAbortStep told faults txn before now (Err (act.House fault))
   stop-halted why fault before now is s = record {
     keeps = s.keeps;
     step = subst (λ (e : Entry). Step told faults (Note e) (fault_outcome fault) (seen_of before) (seen_of now)) (sym is) s.step;

@@ -1,5 +1,5 @@
 -- What acts add to a told house is true where it is added.
-use Rattle.std.proofs.Common.{◌≡◌, inl, inr, ℕ, ◌+◌, ◌≤◌, true, is_none, Option, Some, None, List, [], ◌∷◌, ◌++◌, length, take, refl, sym, ap, ◌∙◌, subst, append-nil, arith}
+use Rattle.std.proofs.Common.{◌≡◌, inl, inr, ℕ, ◌+◌, ◌≤◌, true, false, is_none, Option, Some, None, List, [], ◌∷◌, ◌++◌, length, take, refl, sym, ap, ◌∙◌, subst, append-nil, arith}
 use Rattle.std.specs.Prelude.{IsSomeAnd, IsTrue}
 use Rattle.std.specs.List.{slice_get, AllByRecursion}
 use Rattle.std.proofs.lemmas.List.{length-append}
@@ -7,8 +7,9 @@ use Rattle.hv_base.specs.declared.ids.TxnId.{TxnId}
 use Rattle.hv_base.specs.declared.ids.TableId.{TableId}
 use Rattle.hv_base.specs.declared.ids.Touch.{Touch}
 use Rattle.hv_shelf.specs.declared.place.Place.{Place}
+use Rattle.hv_ast.specs.declared.statement.Stmt.{Stmt}
 use Rattle.hv_logic.specs.declared.meaning.Meaning.{Meaning}
-use Rattle.hv_logic.specs.declared.meaning.Meaning.TheVariants.{Change, Make, Unmake, Refused, Twice, RowLimit, PartitionLimit}
+use Rattle.hv_logic.specs.declared.meaning.Meaning.TheVariants.{Refused, Listing, Change, Make, Unmake, Plain, Twice, RowLimit, PartitionLimit}
 use Rattle.hv_route.specs.declared.files.OutFile.{OutFile}
 use Rattle.hv_route.specs.Routes.{files_of}
 use Rattle.hv_route.specs.Touching.{touches_of}
@@ -19,10 +20,14 @@ use Rattle.hv_history.specs.declared.entry.Cause.{Cause}
 use Rattle.hv_history.specs.declared.entry.Cause.TheVariants as cause
 use Rattle.hv_history.specs.declared.state.Ending.{Ending}
 use Rattle.hv_history.specs.declared.state.Transaction.{Transaction}
-use Rattle.hv_history.specs.State.{numbered, meaning}
-use Rattle.hv_history.specs.Legal.{IsRunning, CommitFits, is_touched, IsTruthful, TouchesAreMeant, IsMake, IsRefusedAs, ConflictIsTrue, IsFirstConflict, place_of_snapshot}
+use Rattle.hv_history.specs.State.{numbered, meaning, State}
+use Rattle.hv_built.specs.Running as built
+use Rattle.hv_history.specs.Asking.{numbers_in, is_asked, first_asked}
+use Rattle.hv_history.specs.Legal.{IsRunning, CommitFits, is_touched, IsTruthful, TouchesAreMeant, HasAsked, CommitIsTrue, IsMake, IsRefusedAs, ConflictIsTrue, IsFirstConflict, place_of_snapshot, Of}
+use Rattle.hv_history.specs.Shown.{is_plain}
 use Rattle.hv_stands.specs.Files.{place_of_file}
-use Rattle.hv_stands.specs.Running.{meant, snapshot_at, running, IsUnderWay}
+use Rattle.hv_history.proofs.AskingLaws.{none-left}
+use Rattle.hv_stands.specs.Running.{Asking, meant, snapshot_at, running, IsUnderWay}
 use Rattle.hv_trail.specs.declared.trail.Reader.TheVariants.{Txn}
 use Rattle.hv_trail.specs.declared.trail.TrailItem.{TrailItem}
 use Rattle.hv_trail.specs.Trail.{book_of, state_at, HasWritten}
@@ -33,9 +38,62 @@ use Rattle.hv_telling.specs.Telling.{IsTrueNow, IsMeantFile}
 use Rattle.hv_acts.specs.Answers.{EntryFits}
 use Rattle.hv_acts.specs.Putting.{Runs}
 use Rattle.hv_acts.specs.Committing.{IsConflict, WerePut}
-use Rattle.hv_acts.specs.Meant.{MeansNow, HasMeant, HasAtMost, places_of_files, IsFileMeant, IsCommitDue, IsMakeMeant, IsDropMeant, IsAbortDue, IsCauseTrue}
+use Rattle.hv_acts.specs.Passing.{opened_then, AllPassed, HasAskedAll}
+use Rattle.hv_acts.specs.Meant.{MeansNow, HasMeant, HasAtMost, places_of_files, IsFileMeant, IsCommitDue, IsMakeMeant, IsDropMeant, IsAbortDue, IsCauseTrue, TouchesNothing}
 use Rattle.hv_acts.proofs.Steps.{book-is}
 use Rattle.hv_acts.proofs.Meant.{IsOnWay, on-way}
+use Rattle.hv_acts.proofs.Passed.{passed-now}
+
+-- ---- it has asked for all aborts that its text lists
+
+abbrev AsksNone : List TrailItem → TxnId → ℕ → Stmt → Meaning → Type 0
+AsksNone trail txn place said Plain =
+    first_asked (state_at trail).transactions txn.0 (opened_then trail place) (numbers_in (Some said)) ≡ None
+AsksNone trail txn place said means = Unit {0}
+
+all-passed-now : (trail : List TrailItem) (txn : TxnId) (place : ℕ) (numbers : List ℕ) → AllPassed trail txn place numbers
+    → AllByRecursion (λ (n : ℕ). is_asked (state_at trail).transactions txn.0 (opened_then trail place) n ≡ false) numbers
+all-passed-now trail txn place [] passed = tt
+all-passed-now trail txn place (n ∷ numbers) passed = (passed-now trail txn place n passed.0, all-passed-now trail txn place numbers passed.1)
+
+asked-now : (trail : List TrailItem) (txn : TxnId) (place : ℕ) (said : Stmt) (means : Meaning) → HasAskedAll trail txn place said means
+    → AsksNone trail txn place said means
+asked-now trail txn place said Plain asked =
+    none-left (state_at trail).transactions txn.0 (opened_then trail place) (numbers_in (Some said)) (all-passed-now trail txn place (numbers_in (Some said)) asked)
+asked-now trail txn place said (Refused why) asked = tt
+asked-now trail txn place said (Listing names rows) asked = tt
+asked-now trail txn place said (Change info effect) asked = tt
+asked-now trail txn place said (Make shape) asked = tt
+asked-now trail txn place said (Unmake table) asked = tt
+asked-now trail txn place said (Twice partition row) asked = tt
+asked-now trail txn place said RowLimit asked = tt
+asked-now trail txn place said PartitionLimit asked = tt
+
+asks-none : (trail : List TrailItem) (txn : TxnId) (asking : Asking) (place : ℕ) (said : Stmt) → built.Runs asking.text said → (means : Meaning) (given : List (ℕ × ℕ))
+    (m : Option Meaning) → AsksNone trail txn place said means
+    → HasAsked (state_at trail) txn.0 (running asking m (snapshot_at (book_of trail) place) given) (Some means)
+asks-none trail txn asking place said runs Plain given m asks =
+    ap (λ (tree : Option Stmt). first_asked (state_at trail).transactions txn.0 (opened_then trail place) (numbers_in tree)) runs.read ∙ asks
+asks-none trail txn asking place said runs (Refused why) given m asks = tt
+asks-none trail txn asking place said runs (Listing names rows) given m asks = tt
+asks-none trail txn asking place said runs (Change info effect) given m asks = tt
+asks-none trail txn asking place said runs (Make shape) given m asks = tt
+asks-none trail txn asking place said runs (Unmake table) given m asks = tt
+asks-none trail txn asking place said runs (Twice partition row) given m asks = tt
+asks-none trail txn asking place said runs RowLimit given m asks = tt
+asks-none trail txn asking place said runs PartitionLimit given m asks = tt
+
+-- one that comes to something else has nothing to ask for
+no-ask : (s : State) (own : ℕ) (t : Transaction) (m : Meaning) → is_plain m ≡ false → HasAsked s own t (Some m)
+no-ask s own t Plain e = cc
+no-ask s own t (Refused why) e = tt
+no-ask s own t (Listing names rows) e = tt
+no-ask s own t (Change info effect) e = tt
+no-ask s own t (Make shape) e = tt
+no-ask s own t (Unmake table) e = tt
+no-ask s own t (Twice partition row) e = tt
+no-ask s own t RowLimit e = tt
+no-ask s own t PartitionLimit e = tt
 
 -- ---- the marks of its files
 
@@ -72,13 +130,13 @@ running-here trail txn runs = by (numbered (state_at trail).transactions txn.0) 
 
 module _ (trail : List TrailItem) (txn : TxnId) (runs : Runs trail txn) where
   -- it is under way
-  way : (given : List (ℕ × ℕ)) (means : Meaning) → HasMeant trail txn given means → IsOnWay (book_of trail) txn given means (running-here trail txn runs).t
+  abbrev way : (given : List (ℕ × ℕ)) (means : Meaning) → HasMeant trail txn given means → IsOnWay (book_of trail) txn given means (running-here trail txn runs).t
   way given means has =
       let here = running-here trail txn runs in
       on-way trail txn given means here.t has here.here here.unended
 
   -- and has just its write ids
-  just-by : (given ids : List (ℕ × ℕ)) (means : Meaning) (t : Transaction) (on : IsOnWay (book_of trail) txn given means t) → on.ids ≡ ids → ids ≡ [] → MeansNow trail txn given means
+  abbrev just-by : (given ids : List (ℕ × ℕ)) (means : Meaning) (t : Transaction) (on : IsOnWay (book_of trail) txn given means t) → on.ids ≡ ids → ids ≡ [] → MeansNow trail txn given means
   just-by given ids means t on same none = record {
     asking = on.asking;
     place = on.place;
@@ -141,12 +199,50 @@ module _ (trail : List TrailItem) (txn : TxnId) (runs : Runs trail txn) where
         record { asking = just.asking; place = just.place; said = just.said; under_way = just.under_way },
       )
 
+  -- it has asked for all: where it comes to something else, and where nothing is touched
+  abbrev HasAskedHere : Type 0
+  HasAskedHere = Of (state_at trail) txn.0 (λ (t : Transaction). HasAsked (state_at trail) txn.0 t (meaning t))
+
+  asked-as : (given : List (ℕ × ℕ)) (means : Meaning) (t : Transaction) (on : IsOnWay (book_of trail) txn given means t)
+      → HasAsked (state_at trail) txn.0
+      (running on.asking (meant (take on.place (book_of trail)) on.said) (snapshot_at (book_of trail) on.place) (given ++ on.ids)) (Some means) → HasAskedHere
+  asked-as given means t on asks =
+      let now : Transaction = running on.asking (meant (take on.place (book_of trail)) on.said) (snapshot_at (book_of trail) on.place) (given ++ on.ids) in
+      subst (λ (o : Option Transaction). IsSomeAnd o (λ (u : Transaction). HasAsked (state_at trail) txn.0 u (meaning u))) (sym on.under_way.here)
+      (subst (HasAsked (state_at trail) txn.0 now) (sym on.means_it) asks)
+
+  pub asked-other : (given : List (ℕ × ℕ)) (means : Meaning) → HasMeant trail txn given means → is_plain means ≡ false → HasAskedHere
+  asked-other given means has other =
+      let on = way given means has in
+      let now : Transaction = running on.asking (meant (take on.place (book_of trail)) on.said) (snapshot_at (book_of trail) on.place) (given ++ on.ids) in
+      asked-as given means _ on (no-ask (state_at trail) txn.0 now means other)
+
+  pub asked-here : (wrote : List Touch) → TouchesNothing trail txn wrote → HasAskedHere
+  asked-here wrote is =
+      let on = way [] is.means is.meant_it in
+      asked-as [] is.means _ on
+      (asks-none trail txn on.asking on.place on.said on.under_way.runs is.means on.ids (meant (take on.place (book_of trail)) on.said)
+      (asked-now trail txn on.place on.said is.means is.asked))
+
+  -- so is its commit, once it has asked for all aborts that it lists
+  commits-here : (wrote : List Touch) (means : Meaning) (given : List (ℕ × ℕ)) (just : MeansNow trail txn given means) → TouchesAreMeant wrote (Some means)
+      → AsksNone trail txn just.place just.said means
+      → IsSomeAnd (numbered (state_at trail).transactions txn.0) (CommitIsTrue (state_at trail) txn.0 wrote)
+  commits-here wrote means given just are asks =
+      let t : Transaction = running just.asking (meant (take just.place (book_of trail)) just.said) (snapshot_at (book_of trail) just.place) given in
+      subst (λ (o : Option Transaction). IsSomeAnd o (CommitIsTrue (state_at trail) txn.0 wrote)) (sym just.under_way.here) (record {
+        touches = subst (TouchesAreMeant wrote) (sym just.means_it) are;
+        asked =
+            subst (HasAsked (state_at trail) txn.0 t) (sym just.means_it)
+            (asks-none trail txn just.asking just.place just.said just.under_way.runs means given (meant (take just.place (book_of trail)) just.said) asks);
+      })
+
   -- what touches nothing has no write id where it fits
   unused : (ids : List (ℕ × ℕ)) (wrote : List Touch) → wrote ≡ [] → AllByRecursion (λ given. IsTrue (is_touched wrote given)) ids → ids ≡ []
   unused [] wrote none used = refl
   unused (x ∷ ids) wrote none used = let never : is_touched [] x ≡ true = ap (λ (ts : List Touch). is_touched ts x) (sym none) ∙ used.0 in cc
 
-  just-none : (wrote : List Touch) (means : Meaning) → HasMeant trail txn [] means → wrote ≡ [] → EntryFits trail (entry.Commit txn wrote) → MeansNow trail txn [] means
+  abbrev just-none : (wrote : List Touch) (means : Meaning) → HasMeant trail txn [] means → wrote ≡ [] → EntryFits trail (entry.Commit txn wrote) → MeansNow trail txn [] means
   just-none wrote means has none fits =
       let on = way [] means has in
       let fit = subst (λ (o : Option Transaction). IsSomeAnd o (CommitFits (state_at trail) wrote)) on.under_way.here fits in
@@ -156,12 +252,12 @@ module _ (trail : List TrailItem) (txn : TxnId) (runs : Runs trail txn) where
       → IsCommitDue trail txn wrote places → IsTrueNow (book_of trail) trail (entry.Commit txn wrote)
   commit-true wrote places most fits put (inl is) =
       let just = just-none wrote is.means is.meant_it is.none fits in (
-        meaning-here [] is.means (TouchesAreMeant wrote) just is.touches,
+        commits-here wrote is.means [] just is.touches (asked-now trail txn just.place just.said is.means is.asked),
         inl (record { asking = just.asking; place = just.place; said = just.said; under_way = just.under_way }),
       )
   commit-true wrote places most fits put (inr is) =
       let just = just-given ((is.info.table.0, is.write) ∷ []) (Change is.info is.effect) is.change most in (
-        meaning-here ((is.info.table.0, is.write) ∷ []) (Change is.info is.effect) (TouchesAreMeant wrote) just is.touches,
+        commits-here wrote (Change is.info is.effect) ((is.info.table.0, is.write) ∷ []) just is.touches tt,
         inr (record {
           asking = just.asking;
           place = just.place;

@@ -1,11 +1,13 @@
 -- What an act answers: the call that was made, how it ended, what it added, and why it was refused.
 use Rattle.std.specs.Prelude.{◌≡◌, ℕ, ◌+◌, ◌<◌, ◌≤◌, true, false, Option, Some, None, List, [], ◌∷◌, length, Contains, Result, Ok, Err}
+use Rattle.std.specs.List.{AllByRecursion}
 use Rattle.hv_base.specs.Faults.{Rose}
 use Rattle.hv_base.specs.declared.ids.TxnId.{TxnId}
 use Rattle.hv_base.specs.declared.ids.TableId.{TableId}
 use Rattle.hv_base.specs.declared.ids.WriteId.{WriteId}
 use Rattle.hv_shelf.specs.Disk.{Store}
 use Rattle.hv_history.specs.declared.entry.Entry.{Entry}
+use Rattle.hv_history.specs.declared.entry.Entry.TheVariants as entry
 use Rattle.hv_history.specs.declared.entry.Cause.{Cause}
 use Rattle.hv_history.specs.declared.entry.Cause.TheVariants as cause
 use Rattle.hv_history.specs.Answers.{cause_text}
@@ -111,11 +113,17 @@ Answers test trail txn Fact is (Err why) = IsWhy test trail txn Fact why
 
 -- ---- a house that is open, and what a call leaves whose store failed
 
--- The call was to note these entries at most, one or none, which are this transaction's and fit: the journal reads to the book, or to the
--- book and them.
+-- it opens no transaction
+abbrev pub OpensNone : Entry → Type 0
+OpensNone (entry.Opened txn session number text) = ⊥
+OpensNone event = Unit {0}
+
+-- The call was to note these entries at most, one or none, which are this transaction's, no Opened, and fit: the journal reads to the book,
+-- or to the book and them.
 pub record IsCutShort {D : Type 0} (told : D → Option Store) (txn : ℕ) (before now : HouseSeen D) : Type 0 where
   pub further : List Entry
   pub of_it : AreOf txn further
+  pub unopened : AllByRecursion OpensNone further
   pub few : length further ≤ 1
   pub fit : AllFit profile (state_at before.trail) further
   pub leaves : Leaves fault.Store further (told now.shelf) (book_of before.trail)

@@ -86,9 +86,11 @@ BeginLeaves told faults asking before now (Err (hindered.House fault.NoMemory)) 
 BeginLeaves told faults asking before now (Err (hindered.House (fault.Failed count))) = ⊥
 
 -- all that is promised of a statement that was to begin
-pub record BeginStep {D : Type 0} (told : D → Option Store) (faults : D → ℕ) (session : List ℕ) (number : ℕ) (text : List ℕ) (tree : Stmt) (before now : House D)
+pub record BeginStep {D : Type 0} (told : D → Option Store) (faults : D → ℕ) (asking : Asking) (tree : Stmt)
+    (before now : House D)
     (result : Result Begun BeginFault) : Type 0 where
   pub keeps : IsWholeOrClosed told now
-  pub step : Step told faults (begin_call (trail_of before.trail) session number text result) (begin_outcome result) (seen_of before) (seen_of now)
+  pub step : Step told faults (begin_call (trail_of before.trail) asking.session asking.number asking.text result)
+      (begin_outcome result) (seen_of before) (seen_of now)
   pub answers : BeginAnswers (trail_of before.trail) tree result
-  pub leaves : BeginLeaves told faults (record { session = session; number = number; text = text }) (seen_of before) (seen_of now) result
+  pub leaves : BeginLeaves told faults asking (seen_of before) (seen_of now) result

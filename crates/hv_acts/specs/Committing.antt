@@ -32,6 +32,7 @@ use Rattle.hv_telling.specs.hv_house.specs.Steps.{seen_of}
 use Rattle.hv_acts.specs.Told.{IsWholeOrClosed}
 use Rattle.hv_acts.specs.Meant.{HasAtMost, RunsWith, places_of_files}
 use Rattle.hv_acts.specs.declared.committing.Committed.{Committed}
+use Rattle.hv_acts.specs.declared.committing.CommitWrites.{CommitWrites}
 use Rattle.hv_acts.specs.declared.committing.Committed.TheVariants as committed
 use Rattle.hv_acts.specs.declared.committing.Conflict.{Conflict}
 use Rattle.hv_acts.specs.declared.fault.ActFault.{ActFault}
@@ -144,9 +145,11 @@ CommitAnswers trail txn wrote name places (Ok (committed.Aborted aborted)) = Has
 CommitAnswers trail txn wrote name places (Err why) = IsWhy FilesTest trail txn (RestsOnCommit trail txn wrote places) why
 
 -- all that is promised of a transaction that was to commit
-pub record CommitStep {D : Type 0} (told : D → Option Store) (faults : D → ℕ) (txn : TxnId) (wrote : List Touch) (name : List ℕ) (places : List Place)
-    (before now : House D) (result : Result Committed ActFault) : Type 0 where
+pub record CommitStep {D : Type 0} (told : D → Option Store) (faults : D → ℕ) (due : CommitWrites)
+    (before now : House D)
+    (result : Result Committed ActFault) : Type 0 where
   pub keeps : IsWholeOrClosed told now
-  pub step : Step told faults (call_to_commit txn wrote result) (answer_outcome result) (seen_of before) (seen_of now)
-  pub answers : CommitAnswers (trail_of before.trail) txn wrote name places result
-  pub leaves : AnswerLeaves told faults txn.0 (seen_of before) (seen_of now) result
+  pub step : Step told faults (call_to_commit due.txn due.wrote result) (answer_outcome result) (seen_of before)
+      (seen_of now)
+  pub answers : CommitAnswers (trail_of before.trail) due.txn due.wrote due.name due.put result
+  pub leaves : AnswerLeaves told faults due.txn.0 (seen_of before) (seen_of now) result

@@ -1,11 +1,13 @@
 -- What is known of a house that acts go on with, whatever others do between: what one's own acts added to its trail, and how a run stops.
 -- Source: Hive Transactions; that each act is one hold of the house is this project's profile.
-use Rattle.std.specs.Prelude.{◌≡◌, ◌⊎◌, ℕ, ◌≤◌, true, false, Option, List}
+use Rattle.std.specs.Prelude.{◌≡◌, ◌⊎◌, ℕ, true, false, Option, List}
+use Rattle.std.specs.List.{AllByRecursion}
 use Rattle.hv_shelf.specs.Disk.{Store}
 use Rattle.hv_history.specs.declared.entry.Entry.{Entry}
 use Rattle.hv_trail.specs.declared.trail.TrailItem.{TrailItem}
 use Rattle.hv_trail.specs.Trail.{book_of}
-use Rattle.hv_actor.specs.Acting.{IsLater, Went}
+use Rattle.hv_trail.specs.Own.{IsOf}
+use Rattle.hv_actor.specs.Acting.{IsLater, Went, Moment}
 use Rattle.hv_telling.specs.hv_house.specs.declared.fault.HouseFault.{HouseFault}
 use Rattle.hv_telling.specs.hv_house.specs.declared.fault.HouseFault.TheVariants as fault
 use Rattle.hv_acts.specs.declared.told.ToldHouse.{ToldHouse}
@@ -26,15 +28,15 @@ IsShutHouse told = told.house.trail.closed ≡ true
 
 -- ---- what one's own acts added
 
--- they added these entries, in this order, and marks beside them; the store's count of faults didn't fall, what the house was opened over stands,
--- and the house goes on
-pub record AddsOwn {D : Type 0} (faults : D → ℕ) (between : List TrailItem → Type 0) (own own' : List ℕ) (before now : ToldHouse D) (added : List Entry) : Type 0 where
+-- they added these entries, in this order, and marks beside them, all as this transaction's; and the house goes on
+pub record AddsOwn {D : Type 0} (faults : D → ℕ) (between : List TrailItem → Type 0) (by : ℕ)
+    (before now : Moment (ToldHouse D))
+    (added : List Entry) : Type 0 where
   pub items : List TrailItem
-  pub went : Went between items own own' (trail_in before) (trail_in now)
+  pub went : Went between items before.own now.own (trail_in before.house) (trail_in now.house)
   pub entries : book_of items ≡ added
-  pub start : now.house.start.value ≡ before.house.start.value
-  pub count : faults_in faults before ≤ faults_in faults now
-  pub later : IsLater faults (seen_in before) (seen_in now)
+  pub mine : AllByRecursion (IsOf by) items
+  pub later : IsLater faults (seen_in before.house) (seen_in now.house)
 
 -- ---- the run stops
 

@@ -5,12 +5,15 @@ pub mod Beginning
 pub mod Committing
 pub mod Counting
 pub mod Dropping
+pub mod Ending
 pub mod Giving
 pub mod Going
 pub mod Making
 pub mod Meant
+pub mod Passing
 pub mod Putting
 pub mod Reading
+pub mod Requesting
 pub mod Showing
 pub mod Starting
 pub mod Told

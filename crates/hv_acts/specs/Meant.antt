@@ -31,6 +31,7 @@ use Rattle.hv_stands.specs.Laws.{HasFile, changes_in}
 use Rattle.hv_stands.specs.Running.{Asking, meant, IsUnderWay}
 use Rattle.hv_trail.specs.declared.trail.TrailItem.{TrailItem}
 use Rattle.hv_trail.specs.Trail.{book_of, state_at}
+use Rattle.hv_acts.specs.Passing.{HasAskedAll}
 
 -- ---- what it means
 
@@ -75,12 +76,13 @@ pub record IsFileMeant (trail : List TrailItem) (by : TxnId) (place : Place) (fi
   pub is_one : Contains (files_of info.shape write 0 effect) file
   pub place_is : place ≡ place_of_file info.table.0 write file
 
--- its statement means that nothing is touched, and it had no write id
+-- its statement means that nothing is touched, it had no write id, and has asked for each abort that its text lists
 pub record TouchesNothing (trail : List TrailItem) (txn : TxnId) (wrote : List Touch) : Type 0 where
   pub means : Meaning
   pub meant_it : HasMeant trail txn [] means
   pub touches : TouchesAreMeant wrote (Some means)
   pub none : wrote ≡ []
+  pub asked : HasAskedAll trail txn meant_it.was.place meant_it.was.said means
 
 -- its statement means a change of rows in that table, and it had no write id
 pub record IsIdDue (trail : List TrailItem) (txn : TxnId) (table : TableId) : Type 0 where
@@ -130,11 +132,12 @@ IsAbortDue trail txn why = ⊥
 abbrev pub IsCauseTrue : List TrailItem → TxnId → Cause → Type 0
 IsCauseTrue trail txn why = IsTruthful (state_at trail) (entry.Abort txn why)
 
--- ---- what ends none
+-- ---- what doesn't end the transaction that adds it: at most it asks for the end of another one
 
-abbrev pub IsNoEnd : Entry → Type 0
-IsNoEnd (entry.Commit txn wrote) = ⊥
-IsNoEnd (entry.Create txn table) = ⊥
-IsNoEnd (entry.Drop txn table) = ⊥
-IsNoEnd (entry.Abort txn why) = ⊥
-IsNoEnd event = Unit {0}
+abbrev pub IsNoEnd : ℕ → Entry → Type 0
+IsNoEnd txn (entry.Commit other wrote) = ⊥
+IsNoEnd txn (entry.Create other table) = ⊥
+IsNoEnd txn (entry.Drop other table) = ⊥
+IsNoEnd txn (entry.Abort other (cause.Request by)) = other.0 ≡ txn → ⊥
+IsNoEnd txn (entry.Abort other why) = ⊥
+IsNoEnd txn event = Unit {0}

@@ -34,6 +34,7 @@ use Rattle.hv_acts.specs.Told.{IsWholeOrClosed}
 use Rattle.hv_telling.specs.Telling.{IsTold}
 use Rattle.hv_acts.specs.declared.fault.ActFault.{ActFault}
 use Rattle.hv_acts.specs.declared.fault.ActFault.TheVariants as act
+use Rattle.hv_acts.specs.declared.listing.ListTable.{ListTable}
 use Rattle.hv_acts.specs.Answers.{answer_outcome, FaultLeaves, AnswerLeaves, FaultRises, WhyRises}
 
 -- ---- a place of the book
@@ -129,12 +130,12 @@ adds_listing by (Ok x) = []
 adds_listing by (Err why) = adds_read by why
 
 -- all that is promised of files that were to be listed for this transaction
-pub record ListStep {D : Type 0} (told : D → Option Store) (faults : D → ℕ) (by : TxnId) (place : ℕ) (table : TableId) (before now : House D)
+pub record ListStep {D : Type 0} (told : D → Option Store) (faults : D → ℕ) (listed : ListTable) (before now : House D)
     (result : Result Listing ActFault) : Type 0 where
   pub keeps : IsWholeOrClosed told now
-  pub step : Step told faults (Read (Some (Txn by))) (answer_outcome result) (seen_of before) (seen_of now)
-  pub answers : ListAnswers told (seen_of before) place table result
-  pub leaves : AnswerLeaves told faults by.0 (seen_of before) (seen_of now) result
+  pub step : Step told faults (Read (Some (Txn listed.by))) (answer_outcome result) (seen_of before) (seen_of now)
+  pub answers : ListAnswers told (seen_of before) listed.place listed.table result
+  pub leaves : AnswerLeaves told faults listed.by.0 (seen_of before) (seen_of now) result
   pub rises : IfErr result (WhyRises faults (seen_of before))
 
 -- ---- the bytes of a file

@@ -1,11 +1,12 @@
 -- A told house, as those keep it who act on it.
-use Rattle.std.specs.Prelude.{◌≡◌, false, Option, List}
+use Rattle.std.specs.Prelude.{◌≡◌, ℕ, false, Option, List}
 use Rattle.hv_shelf.specs.Disk.{Store}
 use Rattle.hv_history.specs.declared.entry.Entry.{Entry}
 use Rattle.hv_trail.specs.declared.trail.TrailItem.{TrailItem}
 use Rattle.hv_trail.specs.Trail.{book_of}
 use Rattle.hv_trail.specs.Kept.{trail_of}
 use Rattle.hv_trail.specs.Steps.{HouseSeen}
+use Rattle.hv_actor.specs.Acting.{Sight, sees}
 use Rattle.hv_telling.specs.hv_house.specs.declared.house.House.{House}
 use Rattle.hv_telling.specs.hv_house.specs.Steps.{seen_of}
 use Rattle.hv_acts.specs.declared.told.ToldHouse.{ToldHouse}
@@ -25,3 +26,7 @@ trail_in told = trail_of told.house.trail
 
 abbrev pub book_in : {D : Type 0} → ToldHouse D → List Entry
 book_in told = book_of (trail_in told)
+
+-- how those see it who act on it, and what holds of it between two acts
+abbrev pub told_sight : {D : Type 0} → (D → Option Store) → (D → ℕ) → Sight D (ToldHouse D)
+told_sight {D = D} told faults = sees told faults seen_in (λ (h : ToldHouse D). IsWholeOrClosed told h.house)

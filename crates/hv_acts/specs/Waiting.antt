@@ -1,16 +1,19 @@
 -- A transaction that is opened, and waits for its Start; and one that is started.
-use Rattle.std.specs.Prelude.{◌≡◌, ℕ, Option, List, length, Result, Ok, Err}
+use Rattle.std.specs.Prelude.{◌≡◌, ℕ, false, Option, List, [], ◌∷◌, length, Result, Ok, Err}
+use Rattle.hv_base.specs.Faults.{Rose}
 use Rattle.hv_base.specs.declared.ids.TxnId.{TxnId}
 use Rattle.hv_shelf.specs.Disk.{Store}
 use Rattle.hv_history.specs.declared.entry.Entry.{Entry}
 use Rattle.hv_history.specs.declared.entry.Entry.TheVariants as entry
 use Rattle.hv_history.specs.Legal.{Of, BlockedFits, HasRoom, profile}
-use Rattle.hv_stands.specs.Running.{next_number, opening}
+use Rattle.hv_stands.specs.Running.{Asking, next_number, opening}
 use Rattle.hv_trail.specs.declared.trail.TrailItem.{TrailItem}
 use Rattle.hv_trail.specs.Trail.{book_of, state_at}
 use Rattle.hv_trail.specs.Kept.{trail_of}
-use Rattle.hv_trail.specs.Steps.{Note, Step}
+use Rattle.hv_trail.specs.Steps.{HouseSeen, Note, Step}
+use Rattle.hv_telling.specs.hv_house.specs.declared.fault.HouseFault.TheVariants as fault
 use Rattle.hv_telling.specs.hv_house.specs.declared.house.House.{House}
+use Rattle.hv_telling.specs.hv_house.specs.House.{Leaves}
 use Rattle.hv_telling.specs.hv_house.specs.Steps.{seen_of}
 use Rattle.hv_acts.specs.Told.{IsWholeOrClosed}
 use Rattle.hv_acts.specs.declared.fault.ActFault.{ActFault}
@@ -36,13 +39,24 @@ abbrev pub OpenAnswers : List TrailItem → Result TxnId ActFault → Type 0
 OpenAnswers trail (Ok txn) = HasRoom profile (state_at trail) 2 × (txn ≡ next_txn trail)
 OpenAnswers trail (Err why) = IsOpenWhy trail why
 
+-- the journal of a house that was open reads to the book still, or to the book and its Opened, which fits
+pub record IsOpeningCut {D : Type 0} (told : D → Option Store) (asking : Asking) (before now : HouseSeen D) : Type 0 where
+  pub fits : EntryFits before.trail (opening (book_of before.trail) asking)
+  pub leaves : Leaves fault.Store (opening (book_of before.trail) asking ∷ []) (told now.shelf) (book_of before.trail)
+
+abbrev pub OpenLeaves : {D : Type 0} → (D → Option Store) → (D → ℕ) → Asking → HouseSeen D → HouseSeen D → Result TxnId ActFault → Type 0
+OpenLeaves told faults asking before now (Err (act.House fault.Store)) = before.closed ≡ false → IsOpeningCut told asking before now × Rose (faults before.shelf) (faults now.shelf)
+OpenLeaves told faults asking before now answer = before.closed ≡ false
+
 -- all that is promised of a transaction that was to be opened
-pub record OpenStep {D : Type 0} (told : D → Option Store) (faults : D → ℕ) (session : List ℕ) (number : ℕ) (text : List ℕ) (before now : House D)
+pub record OpenStep {D : Type 0} (told : D → Option Store) (faults : D → ℕ) (asking : Asking) (before now : House D)
     (result : Result TxnId ActFault) : Type 0 where
   pub keeps : IsWholeOrClosed told now
-  pub step : Step told faults (answer_call (Note (next_opened (trail_of before.trail) session number text)) result) (answer_outcome result) (seen_of before) (seen_of now)
+  pub step : Step told faults (answer_call (Note (next_opened (trail_of before.trail) asking.session asking.number
+      asking.text)) result)
+      (answer_outcome result) (seen_of before) (seen_of now)
   pub answers : OpenAnswers (trail_of before.trail) result
-  pub leaves : AnswerLeaves told faults (next_number (book_of (trail_of before.trail))) (seen_of before) (seen_of now) result
+  pub leaves : OpenLeaves told faults asking (seen_of before) (seen_of now) result
 
 -- ---- its Start
 

@@ -1,8 +1,11 @@
 ghost use Rattle.std.specs.Prelude.{◌≡◌, IfOk, length};
 ghost use Rattle.hv_history.specs.declared.entry.Entry.TheVariants as entry;
+ghost use Rattle.hv_stands.specs.Running.{IsOwnCause};
 ghost use Rattle.hv_trail.specs.Trail.{book_of};
 ghost use Rattle.hv_trail.specs.Kept.{trail_of};
 ghost use Rattle.hv_telling.specs.hv_house.specs.House.{IsSmall};
+ghost use Rattle.hv_telling.specs.hv_house.specs.Housed.{ShutsHard};
+ghost use Rattle.hv_telling.specs.hv_house.specs.Steps.{seen_of};
 ghost use Rattle.hv_telling.specs.Telling.{IsToldHouse, IsWhole};
 ghost use Rattle.hv_acts.specs.Meant.{IsAbortDue};
 ghost use Rattle.hv_acts.specs.Answers.{HasItsMark, EntryStep};
@@ -26,11 +29,14 @@ pub struct AbortFor {
 
 fn abort_for<D: Shelf>(house: &mut House<D>, txn: TxnId, cause: Cause) -> Result<u64, ActFault>
     requires whole { IsWhole D.told house.old }
+    requires hard { ShutsHard D.hard (seen_of house.old) }
+    requires own { IsOwnCause cause }
     requires small { IsSmall (entry.Abort txn cause) }
     requires marked { HasItsMark (trail_of house.old.trail) txn cause }
     requires truly { IsToldHouse D.told house.old → IsAbortDue (trail_of house.old.trail) txn cause }
     ensures noted { EntryStep D.told D.faults txn (entry.Abort txn cause) house.old house.new result }
     ensures place { IfOk result (λ place. place ≡ length (book_of (trail_of house.old.trail))) }
+    ensures hard { ShutsHard D.hard (seen_of house.new) }
 {
     let place = next_place(house);
     match note_fitting(house, txn, Entry::Abort { txn, cause }) {
@@ -42,6 +48,7 @@ fn abort_for<D: Shelf>(house: &mut House<D>, txn: TxnId, cause: Cause) -> Result
 impl<D: Shelf + Drop> Act<D, ToldHouse<D>> for AbortFor {
     ghost use Rattle.std.specs.Prelude.{◌≡◌, ℕ, length};
     ghost use Rattle.hv_history.specs.declared.entry.Entry.TheVariants as entry;
+    ghost use Rattle.hv_stands.specs.Running.{IsOwnCause};
     ghost use Rattle.hv_trail.specs.Trail.{book_of};
     ghost use Rattle.hv_trail.specs.Steps.{Note};
     ghost use Rattle.hv_telling.specs.hv_house.specs.House.{IsSmall};
@@ -52,7 +59,7 @@ impl<D: Shelf + Drop> Act<D, ToldHouse<D>> for AbortFor {
     type Answer = Result<u64, ActFault>;
 
     ghost can = { λ act house. IsSmall (entry.Abort act.txn act.cause) × HasItsMark house.trail act.txn act.cause
-        × (IsTold D.told house.start → IsAbortDue house.trail act.txn act.cause) };
+        × (IsTold D.told house.start → IsAbortDue house.trail act.txn act.cause) × IsOwnCause act.cause };
 
     ghost call = { λ act house answer. answer_call (Note (entry.Abort act.txn act.cause)) answer };
 

@@ -5,10 +5,13 @@ ghost use Rattle.hv_shelf.specs.declared.place.Place.{Place};
 ghost use Rattle.hv_history.specs.declared.entry.Entry.TheVariants as entry;
 ghost use Rattle.hv_history.specs.Legal.{Of, MeetsNoConflict};
 ghost use Rattle.hv_conflicts.specs.Clashes.{IsClash};
+ghost use Rattle.hv_stands.specs.Running.{IsOwnCause};
 ghost use Rattle.hv_trail.specs.declared.trail.Reader.TheVariants.{Txn};
 ghost use Rattle.hv_trail.specs.Trail.{book_of, state_at, broken};
 ghost use Rattle.hv_trail.specs.Kept.{trail_of};
 ghost use Rattle.hv_telling.specs.hv_house.specs.House.{IsSmall};
+ghost use Rattle.hv_telling.specs.hv_house.specs.Housed.{ShutsHard};
+ghost use Rattle.hv_telling.specs.hv_house.specs.Steps.{seen_of};
 ghost use Rattle.hv_telling.specs.Telling.{IsToldHouse, IsWhole};
 ghost use Rattle.hv_acts.specs.Answers.{EntryFits, HasItsMark};
 ghost use Rattle.hv_acts.specs.Meant.{RunsWith, IsCommitDue, IsCauseTrue};
@@ -112,6 +115,8 @@ fn note_conflict<D: Shelf>(
     conflict: Conflict,
 ) -> Result<Committed, ActFault>
     requires whole { IsWhole D.told house.old }
+    requires hard { ShutsHard D.hard (seen_of house.old) }
+    requires own { IsOwnCause conflict.cause }
     requires small { IsSmall (entry.Abort txn conflict.cause) }
     requires fits { EntryFits (trail_of house.old.trail) (entry.Abort txn conflict.cause) }
     requires marked { HasItsMark (trail_of house.old.trail) txn conflict.cause }
@@ -121,7 +126,9 @@ fn note_conflict<D: Shelf>(
     requires same { conflict.aborted.cause ≡ conflict.cause }
     ensures committed { (wrote : List Touch) (name : List ℕ) (places : List Place)
         → HasMet (trail_of house.old.trail) txn wrote name conflict
-        → CommitStep D.told D.faults txn wrote name places house.old house.new result }
+        → CommitStep D.told D.faults (record { txn = txn; wrote = wrote; name = name; put = places }) house.old
+        house.new result }
+    ensures hard { ShutsHard D.hard (seen_of house.new) }
 {
     let Conflict { cause, aborted } = conflict;
     match note_abort(house, txn, cause, aborted) {
@@ -138,13 +145,15 @@ fn end_by_conflict<D: Shelf>(
     found: Clash,
 ) -> Result<Committed, ActFault>
     requires whole { IsWhole D.told house.old }
+    requires hard { ShutsHard D.hard (seen_of house.old) }
     requires running { RunsWith (trail_of house.old.trail) due.now.txn 1 }
     requires small { IsSmall (entry.Commit due.now.txn due.now.wrote) }
     requires clash { IsClash (state_at (trail_of house.old.trail)) due.now.txn.0 due.now.wrote found }
     requires truly { IsToldHouse D.told house.old
         → IsCommitDue (trail_of house.old.trail) due.now.txn due.now.wrote due.now.put }
-    ensures committed { CommitStep D.told D.faults due.now.txn due.now.wrote due.now.name due.now.put
+    ensures committed { CommitStep D.told D.faults due.now
         house.old house.new result }
+    ensures hard { ShutsHard D.hard (seen_of house.new) }
 {
     let at = next_place(house);
     match conflict_at(alloc, at, found, due.wrote.as_slice(), &due.name) {
@@ -156,6 +165,7 @@ fn end_by_conflict<D: Shelf>(
 /// Commits a transaction that meets no conflict.
 fn end_by_commit<D: Shelf>(house: &mut House<D>, due: CommitWrites) -> Result<Committed, ActFault>
     requires whole { IsWhole D.told house.old }
+    requires hard { ShutsHard D.hard (seen_of house.old) }
     requires running { RunsWith (trail_of house.old.trail) due.txn 1 }
     requires small { IsSmall (entry.Commit due.txn due.wrote) }
     requires can { CanBePut (trail_of house.old.trail) due.txn due.wrote due.put }
@@ -165,8 +175,9 @@ fn end_by_commit<D: Shelf>(house: &mut House<D>, due: CommitWrites) -> Result<Co
     requires put { WerePut (trail_of house.old.trail) due.txn due.put }
     requires clear { Of (state_at (trail_of house.old.trail)) due.txn.0
         (λ t. MeetsNoConflict (state_at (trail_of house.old.trail)) t due.wrote) }
-    ensures committed { CommitStep D.told D.faults due.txn due.wrote due.name due.put
+    ensures committed { CommitStep D.told D.faults due
         house.old house.new result }
+    ensures hard { ShutsHard D.hard (seen_of house.new) }
 {
     let at = next_place(house);
     let txn = due.txn;
@@ -184,14 +195,16 @@ fn end_running<D: Shelf>(
     due: CommitWrites,
 ) -> Result<Committed, ActFault>
     requires whole { IsWhole D.told house.old }
+    requires hard { ShutsHard D.hard (seen_of house.old) }
     requires running { RunsWith (trail_of house.old.trail) due.txn 1 }
     requires small { IsSmall (entry.Commit due.txn due.wrote) }
     requires can { CanBePut (trail_of house.old.trail) due.txn due.wrote due.put }
     requires truly { IsToldHouse D.told house.old
         → IsCommitDue (trail_of house.old.trail) due.txn due.wrote due.put }
     requires unbroken { broken (Txn due.txn) (trail_of house.old.trail) ≡ None }
-    ensures committed { CommitStep D.told D.faults due.txn due.wrote due.name due.put
+    ensures committed { CommitStep D.told D.faults due
         house.old house.new result }
+    ensures hard { ShutsHard D.hard (seen_of house.new) }
 {
     if !is_put(house, due.txn, &due.put) {
         return Err(late(house, due.txn));
@@ -208,12 +221,14 @@ fn commit_writes<D: Shelf>(
     due: CommitWrites,
 ) -> Result<Committed, ActFault>
     requires whole { IsWhole D.told house.old }
+    requires hard { ShutsHard D.hard (seen_of house.old) }
     requires small { IsSmall (entry.Commit due.txn due.wrote) }
     requires can { CanBePut (trail_of house.old.trail) due.txn due.wrote due.put }
     requires truly { IsToldHouse D.told house.old
         → IsCommitDue (trail_of house.old.trail) due.txn due.wrote due.put }
-    ensures committed { CommitStep D.told D.faults due.txn due.wrote due.name due.put
+    ensures committed { CommitStep D.told D.faults due
         house.old house.new result }
+    ensures hard { ShutsHard D.hard (seen_of house.new) }
 {
     if !runs_with(house, due.txn, 1) {
         return Err(late(house, due.txn));

@@ -1,6 +1,8 @@
 ghost use Rattle.std.specs.Prelude.{◌≡◌, IfOk, length};
 ghost use Rattle.hv_trail.specs.Trail.{book_of};
 ghost use Rattle.hv_trail.specs.Kept.{trail_of};
+ghost use Rattle.hv_telling.specs.hv_house.specs.Housed.{ShutsHard};
+ghost use Rattle.hv_telling.specs.hv_house.specs.Steps.{seen_of};
 ghost use Rattle.hv_telling.specs.Telling.{IsToldHouse, IsWhole};
 ghost use Rattle.hv_acts.specs.Meant.{IsDropMeant};
 ghost use Rattle.hv_acts.specs.Dropping.{DropStep};
@@ -25,9 +27,11 @@ pub struct DropTable {
 #[tactic(auto, using(crate::proofs::Shorts::short_drop))]
 fn drop_table<D: Shelf>(house: &mut House<D>, txn: TxnId, table: TableId) -> Result<u64, ActFault>
     requires whole { IsWhole D.told house.old }
+    requires hard { ShutsHard D.hard (seen_of house.old) }
     requires truly { IsToldHouse D.told house.old → IsDropMeant (trail_of house.old.trail) txn table }
     ensures dropped { DropStep D.told D.faults txn table house.old house.new result }
     ensures place { IfOk result (λ place. place ≡ length (book_of (trail_of house.old.trail))) }
+    ensures hard { ShutsHard D.hard (seen_of house.new) }
 {
     if !runs_with(house, txn, 0) {
         return Err(late(house, txn));

@@ -3,7 +3,7 @@ use hv_telling::hv_house::HouseFault;
 use thiserror::Error;
 
 /// Why an act of a transaction was refused.
-#[derive(Clone, Copy, Debug, PartialEq, Eq, Error)]
+#[derive(Clone, Copy, Debug, Error)]
 pub enum ActFault {
     /// The transaction was ended, by the entry at this place.
     #[error("the transaction has ended")]
@@ -26,7 +26,7 @@ pub enum ActFault {
 }
 
 /// Why a statement was not begun.
-#[derive(Clone, Copy, Debug, PartialEq, Eq, Error)]
+#[derive(Clone, Copy, Debug, Error)]
 pub enum BeginFault {
     /// It has to wait: this is the lowest open started transaction that holds a lock against it.
     #[error("another transaction holds a lock")]

@@ -2,6 +2,8 @@ ghost use Rattle.std.specs.Prelude.{◌≡◌};
 ghost use Rattle.hv_history.specs.Legal.{Of, FullFits, profile};
 ghost use Rattle.hv_trail.specs.Trail.{state_at};
 ghost use Rattle.hv_trail.specs.Kept.{trail_of};
+ghost use Rattle.hv_telling.specs.hv_house.specs.Housed.{ShutsHard};
+ghost use Rattle.hv_telling.specs.hv_house.specs.Steps.{seen_of};
 ghost use Rattle.hv_telling.specs.Telling.{IsToldHouse, IsWhole};
 ghost use Rattle.hv_acts.specs.Answers.{next_id};
 ghost use Rattle.hv_acts.specs.Giving.{GiveStep};
@@ -51,11 +53,13 @@ fn give_none<D: Shelf>(
     table: TableId,
 ) -> Result<Given, ActFault>
     requires whole { IsWhole D.told house.old }
+    requires hard { ShutsHard D.hard (seen_of house.old) }
     requires runs { RunsWith (trail_of house.old.trail) txn 0 }
     requires full { Of (state_at (trail_of house.old.trail)) txn.0
         (FullFits profile (state_at (trail_of house.old.trail))) }
     requires truly { IsToldHouse D.told house.old → IsIdDue (trail_of house.old.trail) txn table }
     ensures given { GiveStep D.told D.faults txn table house.old house.new result }
+    ensures hard { ShutsHard D.hard (seen_of house.new) }
 {
     match abort_full(alloc, house, txn) {
         Ok(aborted) => Ok(Given::Aborted(aborted)),
@@ -67,10 +71,12 @@ fn give_none<D: Shelf>(
 #[tactic(auto, using(crate::proofs::Shorts::short_given))]
 fn give_next<D: Shelf>(house: &mut House<D>, txn: TxnId, table: TableId) -> Result<Given, ActFault>
     requires whole { IsWhole D.told house.old }
+    requires hard { ShutsHard D.hard (seen_of house.old) }
     requires runs { RunsWith (trail_of house.old.trail) txn 0 }
     requires room { Of (state_at (trail_of house.old.trail)) txn.0
         (FullFits profile (state_at (trail_of house.old.trail))) → ⊥ }
     ensures given { GiveStep D.told D.faults txn table house.old house.new result }
+    ensures hard { ShutsHard D.hard (seen_of house.new) }
 {
     let write = next_id(house, table);
     match note_fitting(house, txn, Entry::Given { txn, table, write }) {
@@ -86,8 +92,10 @@ fn give_id<D: Shelf>(
     table: TableId,
 ) -> Result<Given, ActFault>
     requires whole { IsWhole D.told house.old }
+    requires hard { ShutsHard D.hard (seen_of house.old) }
     requires truly { IsToldHouse D.told house.old → IsIdDue (trail_of house.old.trail) txn table }
     ensures given { GiveStep D.told D.faults txn table house.old house.new result }
+    ensures hard { ShutsHard D.hard (seen_of house.new) }
 {
     if !runs_with(house, txn, 0) {
         return Err(late(house, txn));

@@ -47,13 +47,14 @@ pub fn what_is_asked_lasts()
         → IsAbortDue before txn cause → IsAbortDue now txn cause }
 {}
 
-/// A transaction that runs has not ended behind entries that end none, and runs still. One that waits has not ended behind marks.
+/// A transaction that runs has not ended behind entries that end no other than an asked for one, and runs still. One that waits has not
+/// ended behind marks.
 pub fn what_is_open_stays_open()
     ensures law { (trail items : List TrailItem) (txn : TxnId) → Of (state_at trail) txn.0 IsRunning
-        → AreOf txn.0 (book_of items) → AllByRecursion IsNoEnd (book_of items)
+        → AreOf txn.0 (book_of items) → AllByRecursion (IsNoEnd txn.0) (book_of items)
         → HasNotEnded (state_in (state_at (trail ++ items)) txn.0) }
     ensures runs { (trail items : List TrailItem) (txn : TxnId) → Of (state_at trail) txn.0 IsRunning
-        → AllByRecursion IsNoEnd (book_of items) → Of (state_at (trail ++ items)) txn.0 IsRunning }
+        → AllByRecursion (IsNoEnd txn.0) (book_of items) → Of (state_at (trail ++ items)) txn.0 IsRunning }
     ensures waits { (trail items : List TrailItem) (txn : TxnId) → Of (state_at trail) txn.0 legal.IsWaiting
         → book_of items ≡ [] → HasNotEnded (state_in (state_at (trail ++ items)) txn.0) }
 {}

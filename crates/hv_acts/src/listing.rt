@@ -1,3 +1,5 @@
+ghost use Rattle.hv_telling.specs.hv_house.specs.Housed.{ShutsHard};
+ghost use Rattle.hv_telling.specs.hv_house.specs.Steps.{seen_of};
 ghost use Rattle.hv_telling.specs.Telling.{IsWhole};
 ghost use Rattle.hv_acts.specs.Reading.{ListStep};
 
@@ -25,7 +27,10 @@ fn list_table<D: Shelf>(
     table: TableId,
 ) -> Result<Listing, ActFault>
     requires whole { IsWhole D.told house.old }
-    ensures listed { ListStep D.told D.faults by place table house.old house.new result }
+    requires hard { ShutsHard D.hard (seen_of house.old) }
+    ensures listed { ListStep D.told D.faults (record { by = by; place = place; table = table }) house.old house.new
+        result }
+    ensures hard { ShutsHard D.hard (seen_of house.new) }
 {
     match house.list(alloc, by, place, table) {
         Ok(listing) => Ok(listing),

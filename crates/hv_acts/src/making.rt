@@ -1,5 +1,7 @@
 ghost use Rattle.std.specs.Prelude.{◌≡◌, IfOk};
 ghost use Rattle.hv_trail.specs.Kept.{trail_of};
+ghost use Rattle.hv_telling.specs.hv_house.specs.Housed.{ShutsHard};
+ghost use Rattle.hv_telling.specs.hv_house.specs.Steps.{seen_of};
 ghost use Rattle.hv_telling.specs.Telling.{IsToldHouse, IsWhole};
 ghost use Rattle.hv_acts.specs.Meant.{IsMakeMeant};
 ghost use Rattle.hv_acts.specs.Making.{MakeStep};
@@ -38,9 +40,11 @@ fn next_table<D: Shelf>(house: &House<D>) -> TableId
 #[tactic(auto, using(crate::proofs::Shorts::short_create))]
 fn make_table<D: Shelf>(house: &mut House<D>, txn: TxnId) -> Result<Made, ActFault>
     requires whole { IsWhole D.told house.old }
+    requires hard { ShutsHard D.hard (seen_of house.old) }
     requires truly { IsToldHouse D.told house.old → IsMakeMeant (trail_of house.old.trail) txn }
     ensures made { MakeStep D.told D.faults txn house.old house.new result }
     ensures next { IfOk result (λ made. made.table ≡ next_table (trail_of house.old.trail)) }
+    ensures hard { ShutsHard D.hard (seen_of house.new) }
 {
     if !runs_with(house, txn, 0) {
         return Err(late(house, txn));

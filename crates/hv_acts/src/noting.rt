@@ -5,14 +5,15 @@ ghost use Rattle.hv_history.specs.declared.entry.Cause.TheVariants as cause;
 ghost use Rattle.hv_history.specs.Book.{tree_of_entry};
 ghost use Rattle.hv_history.specs.Legal.{Of, FullFits, profile};
 ghost use Rattle.hv_fits.specs.Texts.{IsHanded};
-ghost use Rattle.hv_stands.specs.Running.{IsOf};
+ghost use Rattle.hv_stands.specs.Running.{IsOf, IsOwnCause};
 ghost use Rattle.hv_trail.specs.Trail.{book_of, state_at};
 ghost use Rattle.hv_trail.specs.Kept.{trail_of};
 ghost use Rattle.hv_telling.specs.hv_house.specs.House.{entries_of, IsReady, IsSmall};
+ghost use Rattle.hv_telling.specs.hv_house.specs.Housed.{ShutsHard};
 ghost use Rattle.hv_telling.specs.Telling.{IsToldHouse, IsWhole, IsTrueNow};
-ghost use Rattle.hv_telling.specs.hv_house.specs.Steps.{IsMarked};
-ghost use Rattle.hv_acts.specs.Answers.{IsLate, EntryFits, EntryStep, HasItsMark, aborted_line};
-ghost use Rattle.hv_acts.specs.Aborting.{AbortStep};
+ghost use Rattle.hv_telling.specs.hv_house.specs.Steps.{seen_of, IsMarked};
+ghost use Rattle.hv_acts.specs.Answers.{IsLate, EntryFits, EntryStep, OpensNone, HasItsMark, aborted_line};
+ghost use Rattle.hv_acts.specs.Aborting.{AbortStep, abort_of};
 ghost use Rattle.hv_acts.specs.Meant.{RunsWith, IsCauseTrue};
 
 use crate::aborted::Aborted;
@@ -88,7 +89,9 @@ pub(crate) fn note_fitting<D: Shelf>(
     entry: Entry,
 ) -> Result<(), ActFault>
     requires whole { IsWhole D.told house.old }
+    requires hard { ShutsHard D.hard (seen_of house.old) }
     requires of_it { IsOf txn.0 entry }
+    requires unopened { OpensNone entry }
     requires tree { tree_of_entry entry ≡ None }
     requires handed { IsHanded entry None }
     requires small { IsSmall entry }
@@ -96,6 +99,7 @@ pub(crate) fn note_fitting<D: Shelf>(
     requires truly { IsToldHouse D.told house.old → EntryFits (trail_of house.old.trail) entry
         → IsTrueNow (entries_of house.old) (trail_of house.old.trail) entry }
     ensures noted { EntryStep D.told D.faults txn entry house.old house.new result }
+    ensures hard { ShutsHard D.hard (seen_of house.new) }
 {
     if !house.fits(&entry, None) {
         let_go(entry);
@@ -134,13 +138,16 @@ pub(crate) fn note_abort<D: Shelf>(
     aborted: Aborted,
 ) -> Result<Aborted, HouseFault>
     requires whole { IsWhole D.told house.old }
+    requires hard { ShutsHard D.hard (seen_of house.old) }
+    requires own { IsOwnCause cause }
     requires small { IsSmall (entry.Abort txn cause) }
     requires fits { EntryFits (trail_of house.old.trail) (entry.Abort txn cause) }
     requires marked { HasItsMark (trail_of house.old.trail) txn cause }
     requires truly { IsToldHouse D.told house.old → IsCauseTrue (trail_of house.old.trail) txn cause }
     requires place { aborted.at ≡ length (book_of (trail_of house.old.trail)) }
     requires same { aborted.cause ≡ cause }
-    ensures noted { AbortStep D.told D.faults txn cause aborted.text house.old house.new result }
+    ensures noted { AbortStep D.told D.faults txn (abort_of cause aborted.text) house.old house.new result }
+    ensures hard { ShutsHard D.hard (seen_of house.new) }
 {
     match note(house, Entry::Abort { txn, cause }, None) {
         Ok(()) => Ok(aborted),
@@ -158,10 +165,13 @@ pub(crate) fn abort_full<D: Shelf>(
     txn: TxnId,
 ) -> Result<Aborted, HouseFault>
     requires whole { IsWhole D.told house.old }
+    requires hard { ShutsHard D.hard (seen_of house.old) }
     requires full { Of (state_at (trail_of house.old.trail)) txn.0
         (FullFits profile (state_at (trail_of house.old.trail))) }
     requires truly { IsToldHouse D.told house.old → IsCauseTrue (trail_of house.old.trail) txn cause.Full }
-    ensures noted { AbortStep D.told D.faults txn cause.Full (aborted_line cause.Full) house.old house.new result }
+    ensures noted { AbortStep D.told D.faults txn (abort_of cause.Full (aborted_line cause.Full)) house.old house.new
+        result }
+    ensures hard { ShutsHard D.hard (seen_of house.new) }
 {
     let at = next_place(house);
     match told_abort(alloc, at, Cause::Full) {

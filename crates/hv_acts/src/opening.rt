@@ -2,6 +2,8 @@ ghost use Rattle.std.specs.Prelude.{◌≡◌, ◌≤◌, length};
 ghost use Rattle.hv_built.specs.Running.{Runs};
 ghost use Rattle.hv_trail.specs.Kept.{trail_of};
 ghost use Rattle.hv_telling.specs.hv_house.specs.House.{IsReady};
+ghost use Rattle.hv_telling.specs.hv_house.specs.Housed.{ShutsHard};
+ghost use Rattle.hv_telling.specs.hv_house.specs.Steps.{seen_of};
 ghost use Rattle.hv_telling.specs.Telling.{IsWhole};
 ghost use Rattle.hv_acts.specs.Beginning.{IsHindered, BeginStep};
 
@@ -54,10 +56,13 @@ fn begin_free<D: Shelf>(
     tree: Stmt,
 ) -> Result<Begun, BeginFault>
     requires whole { IsWhole D.told house.old }
+    requires hard { ShutsHard D.hard (seen_of house.old) }
     requires runs { Runs text tree }
     requires short { length text ≤ 32768 }
     requires named { length session ≤ 32 }
-    ensures begun { BeginStep D.told D.faults session number text tree house.old house.new result }
+    ensures begun { BeginStep D.told D.faults (record { session = session; number = number; text = text }) tree
+        house.old house.new result }
+    ensures hard { ShutsHard D.hard (seen_of house.new) }
 {
     if !house.can_begin(&tree) {
         let why = hindrance(house, &tree);

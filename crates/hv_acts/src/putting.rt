@@ -1,8 +1,10 @@
 ghost use Rattle.hv_table_rows.specs.Putting.{CanPut};
 ghost use Rattle.hv_trail.specs.Kept.{trail_of};
+ghost use Rattle.hv_telling.specs.hv_house.specs.Housed.{ShutsHard};
+ghost use Rattle.hv_telling.specs.hv_house.specs.Steps.{seen_of};
 ghost use Rattle.hv_telling.specs.Telling.{IsToldHouse, IsWhole};
 ghost use Rattle.hv_acts.specs.Meant.{IsFileMeant};
-ghost use Rattle.hv_acts.specs.Putting.{HasIdFor, FileStep};
+ghost use Rattle.hv_acts.specs.Putting.{HasIdFor, FileStep, at_place};
 
 use crate::fault::ActFault;
 use crate::noting::{late, runs_with};
@@ -31,10 +33,12 @@ fn put_running<D: Shelf>(
     file: &OutFile,
 ) -> Result<(), ActFault>
     requires whole { IsWhole D.told house.old }
+    requires hard { ShutsHard D.hard (seen_of house.old) }
     requires can { CanPut file.now }
     requires given { HasIdFor (trail_of house.old.trail) by place file.now }
     requires truly { IsToldHouse D.told house.old → IsFileMeant (trail_of house.old.trail) by place file.now }
-    ensures put { FileStep D.told D.faults by place file.now house.old house.new result }
+    ensures put { FileStep D.told D.faults by (at_place place file.now) house.old house.new result }
+    ensures hard { ShutsHard D.hard (seen_of house.new) }
 {
     if !runs_with(house, by, 1) {
         return Err(late(house, by));

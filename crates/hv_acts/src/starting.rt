@@ -7,9 +7,11 @@ ghost use Rattle.hv_history.specs.Legal.{Of, IsWaiting, FullFits, profile};
 ghost use Rattle.hv_trail.specs.Trail.{state_at};
 ghost use Rattle.hv_trail.specs.Kept.{trail_of};
 ghost use Rattle.hv_telling.specs.hv_house.specs.House.{IsReady};
+ghost use Rattle.hv_telling.specs.hv_house.specs.Housed.{ShutsHard};
+ghost use Rattle.hv_telling.specs.hv_house.specs.Steps.{seen_of};
 ghost use Rattle.hv_telling.specs.Telling.{IsWhole};
 ghost use Rattle.hv_acts.specs.Answers.{aborted_line};
-ghost use Rattle.hv_acts.specs.Aborting.{AbortStep};
+ghost use Rattle.hv_acts.specs.Aborting.{AbortStep, abort_of};
 ghost use Rattle.hv_acts.specs.Starting.{WaitsInFull, StartOrAbortStep};
 ghost use Rattle.hv_acts.specs.Waiting.{next_txn, IsHeld, OpenStep, StartStep};
 
@@ -70,11 +72,14 @@ fn open_transaction<D: Shelf>(
     tree: Stmt,
 ) -> Result<TxnId, ActFault>
     requires whole { IsWhole D.told house.old }
+    requires hard { ShutsHard D.hard (seen_of house.old) }
     requires runs { Runs text tree }
     requires short { length text ≤ 32768 }
     requires named { length session ≤ 32 }
-    ensures opened { OpenStep D.told D.faults session number text house.old house.new result }
+    ensures opened { OpenStep D.told D.faults (record { session = session; number = number; text = text }) house.old
+        house.new result }
     ensures next { IfOk result (λ txn. txn ≡ next_txn (trail_of house.old.trail)) }
+    ensures hard { ShutsHard D.hard (seen_of house.new) }
 {
     let txn = house.next_txn();
     let entry = Entry::Opened {
@@ -119,8 +124,10 @@ fn holder<D: Shelf>(house: &House<D>, txn: TxnId) -> Option<TxnId>
 /// Starts a transaction against which nobody holds a lock, where there is room.
 fn start_in_room<D: Shelf>(house: &mut House<D>, txn: TxnId) -> Result<u64, ActFault>
     requires whole { IsWhole D.told house.old }
+    requires hard { ShutsHard D.hard (seen_of house.old) }
     requires unheld { (by : TxnId) → IsHeld (trail_of house.old.trail) txn by → ⊥ }
     ensures started { StartStep D.told D.faults txn house.old house.new result }
+    ensures hard { ShutsHard D.hard (seen_of house.new) }
 {
     let place = next_place(house);
     if is_full(house, txn) {
@@ -134,7 +141,9 @@ fn start_in_room<D: Shelf>(house: &mut House<D>, txn: TxnId) -> Result<u64, ActF
 
 fn start_transaction<D: Shelf>(house: &mut House<D>, txn: TxnId) -> Result<u64, ActFault>
     requires whole { IsWhole D.told house.old }
+    requires hard { ShutsHard D.hard (seen_of house.old) }
     ensures started { StartStep D.told D.faults txn house.old house.new result }
+    ensures hard { ShutsHard D.hard (seen_of house.new) }
 {
     match holder(house, txn) {
         Some(by) => Err(ActFault::Held { by }),
@@ -159,9 +168,11 @@ fn abort_blocked<D: Shelf>(
     holder: TxnId,
 ) -> Result<Aborted, HouseFault>
     requires whole { IsWhole D.told house.old }
+    requires hard { ShutsHard D.hard (seen_of house.old) }
     requires held { IsHeld (trail_of house.old.trail) txn holder }
-    ensures noted { AbortStep D.told D.faults txn (cause.Blocked holder)
-        (aborted_line (cause.Blocked holder)) house.old house.new result }
+    ensures noted { AbortStep D.told D.faults txn
+        (abort_of (cause.Blocked holder) (aborted_line (cause.Blocked holder))) house.old house.new result }
+    ensures hard { ShutsHard D.hard (seen_of house.new) }
 {
     let at = next_place(house);
     match told_abort(alloc, at, Cause::Blocked { holder }) {
@@ -177,8 +188,10 @@ fn start_blocked<D: Shelf>(
     holder: TxnId,
 ) -> Result<Started, ActFault>
     requires whole { IsWhole D.told house.old }
+    requires hard { ShutsHard D.hard (seen_of house.old) }
     requires held { IsHeld (trail_of house.old.trail) txn holder }
     ensures started { StartOrAbortStep D.told D.faults txn house.old house.new result }
+    ensures hard { ShutsHard D.hard (seen_of house.new) }
 {
     match abort_blocked(alloc, house, txn, holder) {
         Ok(aborted) => Ok(Started::Aborted(aborted)),
@@ -192,9 +205,11 @@ fn start_full<D: Shelf>(
     txn: TxnId,
 ) -> Result<Started, ActFault>
     requires whole { IsWhole D.told house.old }
+    requires hard { ShutsHard D.hard (seen_of house.old) }
     requires unheld { (by : TxnId) → IsHeld (trail_of house.old.trail) txn by → ⊥ }
     requires full { WaitsInFull (trail_of house.old.trail) txn }
     ensures started { StartOrAbortStep D.told D.faults txn house.old house.new result }
+    ensures hard { ShutsHard D.hard (seen_of house.new) }
 {
     match abort_full(alloc, house, txn) {
         Ok(aborted) => Ok(Started::Aborted(aborted)),
@@ -205,9 +220,11 @@ fn start_full<D: Shelf>(
 /// Starts a transaction in whose way nothing stands.
 fn start_free<D: Shelf>(house: &mut House<D>, txn: TxnId) -> Result<Started, ActFault>
     requires whole { IsWhole D.told house.old }
+    requires hard { ShutsHard D.hard (seen_of house.old) }
     requires unheld { (by : TxnId) → IsHeld (trail_of house.old.trail) txn by → ⊥ }
     requires room { WaitsInFull (trail_of house.old.trail) txn → ⊥ }
     ensures started { StartOrAbortStep D.told D.faults txn house.old house.new result }
+    ensures hard { ShutsHard D.hard (seen_of house.new) }
 {
     let place = next_place(house);
     match note_fitting(house, txn, Entry::Start { txn, statement: 0 }) {
@@ -223,8 +240,10 @@ fn start_unheld<D: Shelf>(
     txn: TxnId,
 ) -> Result<Started, ActFault>
     requires whole { IsWhole D.told house.old }
+    requires hard { ShutsHard D.hard (seen_of house.old) }
     requires unheld { (by : TxnId) → IsHeld (trail_of house.old.trail) txn by → ⊥ }
     ensures started { StartOrAbortStep D.told D.faults txn house.old house.new result }
+    ensures hard { ShutsHard D.hard (seen_of house.new) }
 {
     if waits_in_full(house, txn) {
         start_full(alloc, house, txn)
@@ -239,7 +258,9 @@ fn start_or_abort<D: Shelf>(
     txn: TxnId,
 ) -> Result<Started, ActFault>
     requires whole { IsWhole D.told house.old }
+    requires hard { ShutsHard D.hard (seen_of house.old) }
     ensures started { StartOrAbortStep D.told D.faults txn house.old house.new result }
+    ensures hard { ShutsHard D.hard (seen_of house.new) }
 {
     match holder(house, txn) {
         Some(by) => start_blocked(alloc, house, txn, by),
@@ -253,10 +274,8 @@ impl<D: Shelf + Drop> Act<D, ToldHouse<D>> for OpenTransaction {
     ghost use Rattle.hv_built.specs.Running.{Runs};
     ghost use Rattle.hv_history.specs.declared.entry.Entry.TheVariants as entry;
     ghost use Rattle.hv_trail.specs.Steps.{Note};
-    ghost use Rattle.hv_trail.specs.Trail.{book_of};
-    ghost use Rattle.hv_stands.specs.Running.{next_number};
-    ghost use Rattle.hv_acts.specs.Answers.{answer_call, answer_outcome, adds_entry, AnswerLeaves};
-    ghost use Rattle.hv_acts.specs.Waiting.{next_opened, OpenAnswers};
+    ghost use Rattle.hv_acts.specs.Answers.{answer_call, answer_outcome, adds_entry};
+    ghost use Rattle.hv_acts.specs.Waiting.{next_opened, OpenAnswers, OpenLeaves};
 
     type Answer = Result<TxnId, ActFault>;
 
@@ -269,7 +288,7 @@ impl<D: Shelf + Drop> Act<D, ToldHouse<D>> for OpenTransaction {
     ghost adds = { λ act answer. adds_entry (λ (txn : TxnId). entry.Opened txn act.session act.number act.text) answer };
 
     ghost does = { λ act house now answer. OpenAnswers house.trail answer
-        × AnswerLeaves D.told D.faults (next_number (book_of house.trail)) house now answer };
+        × OpenLeaves D.told D.faults (record { session = act.session; number = act.number; text = act.text }) house now answer };
 
     fn act(self, _alloc: Global, house: &mut ToldHouse<D>) -> Result<TxnId, ActFault> {
         if house.house.is_closed() {

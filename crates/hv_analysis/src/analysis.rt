@@ -61,6 +61,7 @@ fn form_analysed(alloc: Global, tables: &[TableInfo], stmt: &Stmt) -> Result<Log
         Stmt::Show(show) => show_analysed(tables, show),
         Stmt::Describe(table) => described(alloc, tables, table),
         Stmt::Set(setting) => set_analysed(setting),
+        Stmt::AbortTransactions(_) => Ok(Logic::Nothing),
         _ => Err(SYNTAX),
     }
 }

@@ -65,7 +65,7 @@ first-place (Some x) s = refl
 
 brief-started : (state : State) (number : ℕ) (t : Transaction) → brief (started state number t) ≡ started_at state.entries (brief t)
 brief-started state number t =
-    ap (λ (o : Option ℕ). record { started = o; ending = option_map end_of t.ending }) (first-place t.snapshot (record { place = state.entries; tables = state.tables }))
+    ap (λ (o : Option ℕ). record { started = o; ending = option_map end_of t.ending }) (first-place t.snapshot (record { place = state.entries; tables = state.tables; opened = length state.transactions }))
 
 abbrev pub TransactionsFollow : State → Notes → Type 0
 TransactionsFollow state notes = notes.transactions ≡ map brief state.transactions

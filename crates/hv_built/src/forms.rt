@@ -40,7 +40,7 @@ pub(crate) fn is_form(stmt: &Stmt) -> bool
         Stmt::DropTable(_) => true,
         Stmt::Show(show) => is_shown(show),
         Stmt::Describe(_) => true,
-        Stmt::Set(_) => true,
+        Stmt::Set(_) | Stmt::AbortTransactions(_) => true,
         _ => false,
     }
 }

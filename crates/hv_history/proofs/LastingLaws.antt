@@ -1,5 +1,5 @@
 -- What one entry changes of transactions and tables, and what it leaves, over any state.
-use Rattle.std.proofs.Common.{◌≡◌, ℕ, zero, suc, Option, Some, None, List, [], ◌∷◌, ◌++◌, fold, refl, sym, ap, ◌∙◌, subst, append_assoc}
+use Rattle.std.proofs.Common.{◌≡◌, ℕ, zero, suc, Option, Some, None, List, [], ◌∷◌, ◌++◌, fold, refl, sym, ap, ◌∙◌, subst, append_assoc, length}
 use Rattle.std.specs.Prelude.{IsSomeAnd}
 use Rattle.std.specs.List.{slice_get}
 use Rattle.std.proofs.lemmas.List.{append-nil}
@@ -89,7 +89,7 @@ start-later : (state : State) (number : ℕ) (t : Transaction) → t.ending ≡ 
 start-later state number t none = record {
   session = refl;
   statements = all-changed_at (meant_in state) (meant-later state) t.statements number;
-  snapshot = λ s e. ap (λ (o : Option Snapshot). first_of o (record { place = state.entries; tables = state.tables })) e;
+  snapshot = λ s e. ap (λ (o : Option Snapshot). first_of o (record { place = state.entries; tables = state.tables; opened = length state.transactions })) e;
   given = front-same t.given;
   ending = unended t (started state number t) none;
 }
@@ -267,7 +267,7 @@ same-changed_at f (x ∷ xs) zero (suc n) other = refl
 same-changed_at f (x ∷ xs) (suc k) zero other = refl
 same-changed_at f (x ∷ xs) (suc k) (suc n) other = same-changed_at f xs k n (λ e. other (ap suc e))
 
-same-changed : {A : Type 0} (f : A → A) (xs : List A) (k n : ℕ) → (k ≡ n → ⊥) → numbered (changed f xs k) n ≡ numbered xs n
+pub same-changed : {A : Type 0} (f : A → A) (xs : List A) (k n : ℕ) → (k ≡ n → ⊥) → numbered (changed f xs k) n ≡ numbered xs n
 same-changed f xs zero n other = refl
 same-changed f xs (suc k) zero other = refl
 same-changed f xs (suc k) (suc n) other = same-changed_at f xs k n (λ e. other (ap suc e))

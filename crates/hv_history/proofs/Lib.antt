@@ -4,3 +4,4 @@ pub mod NumberLemmas
 pub mod AnswerLemmas
 pub mod RefusalNames
 pub mod LastingLaws
+pub mod AskingLaws

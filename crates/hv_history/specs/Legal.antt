@@ -25,6 +25,7 @@ use Rattle.hv_history.specs.declared.entry.Entry.{Entry}
 use Rattle.hv_history.specs.declared.entry.Entry.TheVariants as entry
 use Rattle.hv_history.specs.declared.entry.Cause.{Cause}
 use Rattle.hv_history.specs.declared.entry.Cause.TheVariants as cause
+use Rattle.hv_history.specs.Asking.{asked_by}
 pub use Rattle.hv_history.specs.Standing.{is_open, is_started, locks_of_tree, locks_of, is_named}
 use Rattle.hv_history.specs.State.{State, Job, Table, Snapshot, Transaction, Ending, Committed, numbered, meaning, opening_tree, created_shape, given_in, nothing_yet, after}
 
@@ -286,6 +287,16 @@ TouchesAreMeant wrote (Some (Change info effect)) = wrote ≡ touches_of info ef
 TouchesAreMeant wrote (Some Plain) = wrote ≡ []
 TouchesAreMeant wrote _ = ⊥
 
+-- a statement that comes to nothing has asked for each abort that its text lists
+abbrev pub HasAsked : State → ℕ → Transaction → Option Meaning → Type 0
+HasAsked state own transaction (Some Plain) = asked_by state own transaction ≡ None
+HasAsked state own transaction _ = Unit {0}
+
+-- what a commit says of its statement is what it came to
+pub record CommitIsTrue (state : State) (own : ℕ) (wrote : List Touch) (transaction : Transaction) : Type 0 where
+  pub touches : TouchesAreMeant wrote (meaning transaction)
+  pub asked : HasAsked state own transaction (meaning transaction)
+
 abbrev pub IsMake : Option Meaning → Type 0
 IsMake (Some (Make shape)) = Unit {0}
 IsMake _ = ⊥
@@ -333,7 +344,7 @@ CauseIsTrue state cause.PartitionLimit transaction = meaning transaction ≡ Som
 CauseIsTrue state _ transaction = Unit {0}
 
 abbrev pub IsTruthful : State → Entry → Type 0
-IsTruthful state (entry.Commit txn wrote) = Of state txn.0 (λ transaction. TouchesAreMeant wrote (meaning transaction))
+IsTruthful state (entry.Commit txn wrote) = Of state txn.0 (CommitIsTrue state txn.0 wrote)
 IsTruthful state (entry.Create txn table) = Of state txn.0 (λ transaction. IsMake (meaning transaction))
 IsTruthful state (entry.Drop txn table) = Of state txn.0 (λ transaction. meaning transaction ≡ Some (Unmake table))
 IsTruthful state (entry.Abort txn cause) = Of state txn.0 (CauseIsTrue state cause)

@@ -5,6 +5,7 @@ pub mod States
 pub mod Standing
 pub mod Shown
 pub mod State
+pub mod Asking
 pub mod Answers
 pub mod Legal
 pub mod Thresholds

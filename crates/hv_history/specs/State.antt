@@ -1,7 +1,7 @@
 -- What a book means: one fold over its entries, from the left. An entry changes the state by what it says and
 -- by the state before it, and by nothing else.
 -- Source: the Hive manual, Hive Transactions, and Hive Transactions: Basic Design.
-use Rattle.std.specs.Prelude.{if◌then◌else◌, ◌≡◌, ℕ, zero, suc, ◌+◌, ◌==◌, Bool, true, false, not, IsFalse, Option, Some, None, List, [], ◌∷◌, ◌++◌, map, filter, fold, slice_get}
+use Rattle.std.specs.Prelude.{if◌then◌else◌, ◌≡◌, ℕ, zero, suc, ◌+◌, ◌==◌, Bool, true, false, not, IsFalse, Option, Some, None, List, [], ◌∷◌, ◌++◌, map, filter, fold, slice_get, length}
 use Rattle.std.specs.Ordering.{is_eq}
 use Rattle.std.specs.List.{flat_map, list_any, AllByRecursion}
 use Rattle.std.specs.Option.{option_map, option_to_list}
@@ -153,7 +153,7 @@ abbrev pub started : State → ℕ → Transaction → Transaction
 started state number transaction =
     record transaction {
       statements = changed_at (meant_in state) transaction.statements number;
-      snapshot = first_of transaction.snapshot (record { place = state.entries; tables = state.tables });
+      snapshot = first_of transaction.snapshot (record { place = state.entries; tables = state.tables; opened = length state.transactions });
     }
 
 abbrev pub given_id : ℕ → ℕ → Transaction → Transaction

@@ -25,11 +25,12 @@ pub struct Table {
     pub forgotten: List<u64>,
 }
 
-/// What a transaction sees: the tables as they stood at this place of the book.
+/// What a transaction sees: the tables as they stood at this place of the book. So many transactions were opened before it.
 #[derive(Drop)]
 pub struct Snapshot {
     pub place: u64,
     pub tables: List<Table>,
+    pub opened: u64,
 }
 
 /// How a transaction ended, and at which place of the book.

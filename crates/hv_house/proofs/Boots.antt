@@ -166,12 +166,13 @@ module _ {D : Type 0} (told : D → Option Store) where
 -- ---- the loop over those that are open
 
 -- so many of them were aborted as lost
-pub record IsLosing {D : Type 0} (told : D → Option Store) (faults : D → ℕ) (first now : House D) (unended : List ℕ) (i : ℕ) : Type 0 where
+pub record IsLosing {D : Type 0} (told : D → Option Store) (faults hard : D → ℕ) (first now : House D) (unended : List ℕ) (i : ℕ) : Type 0 where
   pub kept : IsKept told now
   pub entries : entries_of now ≡ entries_of first ++ map lost_entry (take i unended)
   pub marks : KeepsMarks first now
   pub tree : Moves KeepsTree (told first.shelf) (told now.shelf)
   pub later : faults first.shelf ≤ faults now.shelf
+  pub hard_later : hard first.shelf ≤ hard now.shelf
 
 parts-at : (xs : List ℕ) (i x : ℕ) → i < length xs → x ≡ slice_index_or xs i x → xs ≡ take i xs ++ x ∷ drop (suc i) xs
 parts-at [] i x low at = absurd (omega arith)
@@ -184,9 +185,9 @@ index-same [] i d e low = absurd (omega (arith, low))
 index-same (x ∷ xs) zero d e low = refl
 index-same (x ∷ xs) (suc i) d e low = index-same xs i d e (omega (arith, low))
 
-module _ {D : Type 0} (told : D → Option Store) (faults : D → ℕ) (first now : House D) (unended : List ℕ) where
+module _ {D : Type 0} (told : D → Option Store) (faults hard : D → ℕ) (first now : House D) (unended : List ℕ) where
   pub lose-halts : {T : Type 0} (next : House D) (i n : ℕ) (why same : HouseFault) (result : Result T HouseFault) → result ≡ Err same → same ≡ why
-      → IsLosing told faults first now unended i → i < length unended → n ≡ slice_index_or unended i n
+      → IsLosing told faults hard first now unended i → i < length unended → n ≡ slice_index_or unended i n
       → IsHalted told (lost_entry n) why now next → IfErr result (λ fault. LosesSome told fault unended first next)
   lose-halts {T = T} next i n why same result is e losing low at halted =
       subst (λ (r : Result T HouseFault). IfErr r (λ fault. LosesSome told fault unended first next)) (sym is)

@@ -1,3 +1,4 @@
+pub mod Hards
 pub mod Lengths
 pub mod Journals
 pub mod Stays
@@ -9,7 +10,6 @@ pub mod Reading
 pub mod Ready
 pub mod Putting
 pub mod Past
-pub mod Seen
 pub mod Listings
 pub mod Beginning
 pub mod Naming

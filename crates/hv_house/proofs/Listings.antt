@@ -18,7 +18,6 @@ use Rattle.hv_trail.specs.declared.trail.Reader.TheVariants.{Txn}
 use Rattle.hv_trail.specs.Steps.{Call, Read, Step}
 use Rattle.hv_house.specs.declared.fault.HouseFault.{HouseFault}
 use Rattle.hv_house.specs.declared.fault.HouseFault.TheVariants as fault
-use Rattle.hv_house.specs.declared.fault.RowFault.TheVariants as row_fault
 use Rattle.hv_house.specs.declared.house.House.{House}
 use Rattle.hv_house.specs.Faults.{house_fault, HasRisen}
 use Rattle.hv_house.specs.House.{entries_of, IsAsked, IsReadyWithin, StaysPutWithin}
@@ -67,13 +66,13 @@ module _ {D : Type 0} (told : D → Option Store) (faults : D → ℕ) (by : Txn
   pub stays-by : {T : Type 0} (limits : Limits) (before now : House D) (result : Result T HouseFault) → IsReadyWithin limits told before → ReadStep told faults by before now result
       → IfErr result (λ why. StaysPutWithin limits told why now)
   stays-by limits before now (Ok x) ready step = tt
-  stays-by limits before now (Err why) ready step = read-stays limits told before now call (row_fault.House why) (asked-by before now (Err why) step) step.gains ready
+  stays-by limits before now (Err why) ready step = read-stays limits told before now call why (asked-by before now (Err why) step) step.gains ready
 
   pub step-by : {T : Type 0} (limits : Limits) (before now : House D) (result : Result T HouseFault) → IsReadyWithin limits told before → ReadStep told faults by before now result
       → Step told faults call (outcome_of result) (seen_of before) (seen_of now)
   step-by limits before now (Ok x) ready step = step-read told faults (Some (Txn by)) before now ready.kept.running step.store step.cause.later step.gains
   step-by limits before now (Err why) ready step =
-      step-unread told faults (Some (Txn by)) before now ready.kept.running step.store step.cause.later (row_fault.House why) step.cause.failed step.gains
+      step-unread told faults (Some (Txn by)) before now ready.kept.running step.store step.cause.later why step.cause.failed step.gains
 
 -- ---- what is found
 

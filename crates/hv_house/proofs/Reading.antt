@@ -10,13 +10,12 @@ use Rattle.hv_trail.specs.declared.trail.TrailItem.{TrailItem}
 use Rattle.hv_trail.specs.Trail.{book_of}
 use Rattle.hv_trail.specs.Kept.{trail_of}
 use Rattle.hv_trail.specs.Steps.{Call, Read, Outcome, Done, Closed, Refused, Failed, gains, shuts, MayEnd, Changes, Counts, Step}
+use Rattle.hv_house.specs.declared.fault.HouseFault.{HouseFault}
 use Rattle.hv_house.specs.declared.fault.HouseFault.TheVariants as fault
-use Rattle.hv_house.specs.declared.fault.RowFault.{RowFault}
-use Rattle.hv_house.specs.declared.fault.RowFault.TheVariants as row_fault
 use Rattle.hv_house.specs.declared.house.House.{House}
-use Rattle.hv_house.specs.Faults.{HasRisenReading}
+use Rattle.hv_house.specs.Faults.{HasRisen}
 use Rattle.hv_house.specs.House.{entries_of}
-use Rattle.hv_house.specs.Steps.{seen_of, reading_outcome, GainsBy}
+use Rattle.hv_house.specs.Steps.{seen_of, fault_outcome, GainsBy}
 use Rattle.hv_house.proofs.Steps.{same-trail}
 
 -- ---- what the trail gains
@@ -76,12 +75,11 @@ module _ {D : Type 0} (told : D → Option Store) (faults : D → ℕ) (by : Opt
   pub step-read : GainsBy (Read by) Done before now → Step told faults (Read by) Done (seen_of before) (seen_of now)
   step-read gained = step-by Done tt (λ book s t e. e) later gained
 
-  pub step-unread : (why : RowFault) → HasRisenReading (faults before.shelf) (faults now.shelf) why → GainsBy (Read by) (reading_outcome why) before now
-      → Step told faults (Read by) (reading_outcome why) (seen_of before) (seen_of now)
-  step-unread (row_fault.Damaged place) rose gained = step-by Refused tt (λ book s t e. e) later gained
-  step-unread (row_fault.House fault.Store) rose gained = step-by Closed tt (λ book s t e. e) later gained
-  step-unread (row_fault.House fault.NoMemory) rose gained = step-by Refused tt (λ book s t e. e) later gained
-  step-unread (row_fault.House (fault.Failed count)) rose gained = step-by (Failed count) tt (λ book s t e. e) (rose.0, omega (arith, rose.1)) gained
+  pub step-unread : (why : HouseFault) → HasRisen (faults before.shelf) (faults now.shelf) why → GainsBy (Read by) (fault_outcome why) before now
+      → Step told faults (Read by) (fault_outcome why) (seen_of before) (seen_of now)
+  step-unread fault.Store rose gained = step-by Closed tt (λ book s t e. e) later gained
+  step-unread fault.NoMemory rose gained = step-by Refused tt (λ book s t e. e) later gained
+  step-unread (fault.Failed count) rose gained = step-by (Failed count) tt (λ book s t e. e) (rose.0, omega (arith, rose.1)) gained
 
 -- ---- the mark of a fault stands
 

@@ -14,11 +14,9 @@ use Rattle.hv_stands.specs.Running.{Asking, opening, starting, next_number}
 use Rattle.hv_stands.proofs.Fitting.{more-fits, room-within}
 use Rattle.hv_house.specs.declared.fault.HouseFault.{HouseFault}
 use Rattle.hv_house.specs.declared.fault.HouseFault.TheVariants as fault
-use Rattle.hv_house.specs.declared.fault.RowFault.{RowFault}
-use Rattle.hv_house.specs.declared.fault.RowFault.TheVariants as row_fault
 use Rattle.hv_house.specs.declared.house.House.{House}
-use Rattle.hv_house.specs.Steps.{fault_outcome, reading_outcome, GainsBy}
-use Rattle.hv_house.specs.House.{entries_of, IsKept, IsReadyWithin, AreNoted, StaysPutWithin, StaysReadWithin, IsAsked, KeepsJournal, BeginFitsWithin, beginning_of}
+use Rattle.hv_house.specs.Steps.{fault_outcome, GainsBy}
+use Rattle.hv_house.specs.House.{entries_of, IsKept, IsReadyWithin, AreNoted, StaysPutWithin, IsAsked, KeepsJournal, BeginFitsWithin, beginning_of}
 
 -- ---- it was only asked, or files were put
 
@@ -49,11 +47,10 @@ module _ {D : Type 0} (limits : Limits) (told : D → Option Store) (before now 
   still-closed : {b : Bool} → IsReadyWithin limits told before → b ≡ before.trail.closed || false → b ≡ before.trail.closed
   still-closed ready same = same ∙ ap (λ c. c || false) ready.kept.running ∙ sym ready.kept.running
 
-  pub read-stays : (call : Call) (why : RowFault) → IsAsked told before now → GainsBy call (reading_outcome why) before now → IsReadyWithin limits told before → StaysReadWithin limits told why now
-  read-stays call (row_fault.Damaged place) asked gains ready = asked-ready asked gains.limits (still-closed ready gains.closed) ready
-  read-stays call (row_fault.House fault.NoMemory) asked gains ready = asked-ready asked gains.limits (still-closed ready gains.closed) ready
-  read-stays call (row_fault.House (fault.Failed count)) asked gains ready = asked-ready asked gains.limits (still-closed ready gains.closed) ready
-  read-stays call (row_fault.House fault.Store) asked gains ready = subst (Holds (told now.shelf)) (sym asked.book) (asked-holds asked ready)
+  pub read-stays : (call : Call) (why : HouseFault) → IsAsked told before now → GainsBy call (fault_outcome why) before now → IsReadyWithin limits told before → StaysPutWithin limits told why now
+  read-stays call fault.NoMemory asked gains ready = asked-ready asked gains.limits (still-closed ready gains.closed) ready
+  read-stays call (fault.Failed count) asked gains ready = asked-ready asked gains.limits (still-closed ready gains.closed) ready
+  read-stays call fault.Store asked gains ready = subst (Holds (told now.shelf)) (sym asked.book) (asked-holds asked ready)
 
   -- a file was put, or that failed
   holds-behind : Moves KeepsJournal (told before.shelf) (told now.shelf) → IsReadyWithin limits told before → Holds (told now.shelf) (entries_of before)

@@ -1,13 +1,11 @@
 -- How a store's fault is passed on.
-use Rattle.std.specs.Prelude.{if◌then◌else◌, ◌≡◌, ℕ, ◌-◌, ◌^◌, ◌<◌, ◌≤◌, nat_lt, Result, Ok, Err, IfErr}
+use Rattle.std.specs.Prelude.{if◌then◌else◌, ◌≡◌, ℕ, ◌-◌, ◌^◌, ◌<◌, ◌≤◌, nat_lt, Bool, true, false, Result, Ok, Err, IfErr}
 use Rattle.hv_base.specs.Faults.{Rose}
+use Rattle.hv_shelf.specs.Causes.{last_count}
 use Rattle.hv_shelf.specs.declared.fault.ShelfFault.{ShelfFault}
 use Rattle.hv_shelf.specs.declared.fault.ShelfFault.TheVariants as shelf
-use Rattle.hv_table_rows.specs.Faults.{IsShort}
 use Rattle.hv_house.specs.declared.fault.HouseFault.{HouseFault}
 use Rattle.hv_house.specs.declared.fault.HouseFault.TheVariants as fault
-use Rattle.hv_house.specs.declared.fault.RowFault.{RowFault}
-use Rattle.hv_house.specs.declared.fault.RowFault.TheVariants as row_fault
 
 -- a fault of a call on files, by the store's count of faults behind it: at its last value it counts as one of the journal
 abbrev pub failed_with : ℕ → HouseFault
@@ -33,25 +31,32 @@ HasRisen faults faults' fault.Store = Rose faults faults'
 HasRisen faults faults' fault.NoMemory = Unit {0}
 HasRisen faults faults' (fault.Failed count) = (count ≡ faults') × (faults < faults')
 
-abbrev pub HasRisenReading : ℕ → ℕ → RowFault → Type 0
-HasRisenReading faults faults' (row_fault.Damaged place) = Unit {0}
-HasRisenReading faults faults' (row_fault.House why) = HasRisen faults faults' why
-
 -- the counts of a call that may fail by its files
 pub record FileCause {T : Type 0} (faults faults' : ℕ) (result : Result T HouseFault) : Type 0 where
   pub later : faults ≤ faults'
   pub failed : IfErr result (HasRisen faults faults')
 
+-- The store's hard count doesn't fall in a call, and a house that was open is closed only where it rose: so behind a call on the journal
+-- that failed, or behind a call on files that failed at the last count of faults.
+pub record HardStep (hard hard' : ℕ) (was is : Bool) : Type 0 where
+  pub later : hard ≤ hard'
+  pub shuts : was ≡ false → is ≡ true → Rose hard hard'
+
+abbrev pub HasRisenHard : ℕ → ℕ → HouseFault → Type 0
+HasRisenHard hard hard' fault.Store = Rose hard hard'
+HasRisenHard hard hard' fault.NoMemory = Unit {0}
+HasRisenHard hard hard' (fault.Failed count) = ⊥
+
+-- the hard count over calls on the journal alone: it doesn't fall, and it rose where the journal failed
+pub record JournalCause {T : Type 0} (hard hard' : ℕ) (result : Result T HouseFault) : Type 0 where
+  pub later : hard ≤ hard'
+  pub failed : IfErr result (HasRisenHard hard hard')
+
+-- a house that was open is closed for a call on files only where it failed so, and the count of faults is at its last value
+pub record ShutsAtLast (Fails : Type 0) (faults : ℕ) (was is : Bool) : Type 0 where
+  pub shuts : was ≡ false → is ≡ true → Fails × (faults ≡ last_count)
+
 -- the fault ends the run: the journal failed, or memory lacks; no fault of a file does
 abbrev pub EndsRun : HouseFault → Type 0
 EndsRun (fault.Failed count) = ⊥
 EndsRun _ = Unit {0}
-
-abbrev pub IsShortDamage : RowFault → Type 0
-IsShortDamage (row_fault.Damaged place) = IsShort place.partition place.dir
-IsShortDamage _ = Unit {0}
-
--- the answer is that a file is damaged
-abbrev pub IsDamage : RowFault → Type 0
-IsDamage (row_fault.Damaged place) = Unit {0}
-IsDamage _ = ⊥

@@ -13,8 +13,6 @@ use Rattle.hv_stands.specs.Files.{Stands}
 use Rattle.hv_stands.specs.Running.{Asking, opening, starting, next_number}
 use Rattle.hv_house.specs.declared.fault.HouseFault.{HouseFault}
 use Rattle.hv_house.specs.declared.fault.HouseFault.TheVariants as fault
-use Rattle.hv_house.specs.declared.fault.RowFault.{RowFault}
-use Rattle.hv_house.specs.declared.fault.RowFault.TheVariants as row_fault
 use Rattle.hv_house.specs.declared.house.House.{House}
 
 -- the most bytes of an entry, and of its record with its gate
@@ -125,10 +123,6 @@ StaysPutWithin limits told (fault.Failed count) now = IsReadyWithin limits told 
 
 abbrev pub StaysPut : {D : Type 0} → (D → Option Store) → HouseFault → House D → Type 0
 StaysPut told why now = StaysPutWithin profile told why now
-
-abbrev pub StaysReadWithin : {D : Type 0} → Limits → (D → Option Store) → RowFault → House D → Type 0
-StaysReadWithin limits told (row_fault.House why) now = StaysPutWithin limits told why now
-StaysReadWithin limits told (row_fault.Damaged place) now = IsReadyWithin limits told now
 
 -- the journal is as it was
 abbrev pub KeepsJournal : Store → Store → Type 0

@@ -18,7 +18,6 @@ use Rattle.hv_choosing.specs.Taken.{files_taken}
 use Rattle.hv_trail.specs.declared.trail.Reader.TheVariants.{Txn}
 use Rattle.hv_trail.specs.Steps.{Read, Outcome, Done}
 use Rattle.hv_house.specs.declared.fault.HouseFault.{HouseFault}
-use Rattle.hv_house.specs.declared.fault.RowFault.TheVariants as row_fault
 use Rattle.hv_house.specs.declared.listing.GetFault.{GetFault}
 use Rattle.hv_house.specs.declared.listing.GetFault.TheVariants as get_fault
 use Rattle.hv_house.specs.declared.house.House.{House}
@@ -79,7 +78,7 @@ StaysGot told why now = StaysGotWithin profile told why now
 -- a fault that has a count has a mark
 abbrev pub IsMarkedGetting : {D : Type 0} → House D → TxnId → GetFault → Type 0
 IsMarkedGetting house by get_fault.NotFound = Unit {0}
-IsMarkedGetting house by (get_fault.House why) = IsMarkedFor house by (row_fault.House why)
+IsMarkedGetting house by (get_fault.House why) = IsMarkedFor house by why
 
 abbrev pub HasRisenGetting : ℕ → ℕ → GetFault → Type 0
 HasRisenGetting faults faults' get_fault.NotFound = Unit {0}

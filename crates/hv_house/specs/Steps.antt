@@ -28,8 +28,6 @@ use Rattle.hv_trail.specs.Kept.{trail_of}
 use Rattle.hv_trail.specs.Steps.{HouseSeen, Call, Put, Outcome, Done, Closed, Refused, Failed, gains, shuts, Step}
 use Rattle.hv_house.specs.declared.fault.HouseFault.{HouseFault}
 use Rattle.hv_house.specs.declared.fault.HouseFault.TheVariants as fault
-use Rattle.hv_house.specs.declared.fault.RowFault.{RowFault}
-use Rattle.hv_house.specs.declared.fault.RowFault.TheVariants as row_fault
 use Rattle.hv_house.specs.declared.house.House.{House}
 use Rattle.hv_house.specs.Faults.{FileCause}
 use Rattle.hv_house.specs.House.{entries_of, IsReadyWithin, StaysPutWithin}
@@ -53,11 +51,6 @@ fault_outcome (fault.Failed count) = Failed count
 abbrev pub outcome_of : {T : Type 0} → Result T HouseFault → Outcome
 outcome_of (Ok x) = Done
 outcome_of (Err why) = fault_outcome why
-
--- how a call that read ended
-abbrev pub reading_outcome : RowFault → Outcome
-reading_outcome (row_fault.Damaged place) = Refused
-reading_outcome (row_fault.House why) = fault_outcome why
 
 -- no mark was made, and what the house was opened over stands, with its limits
 pub record KeepsMarks {D : Type 0} (before now : House D) : Type 0 where
@@ -108,11 +101,10 @@ abbrev pub HasBrokenPut : {D : Type 0} → House D → TxnId → ℕ → Type 0
 HasBrokenPut house by count = Contains (trail_of house.trail) (Marked (Broke (Some (Txn by)) true count))
 
 -- a fault of reading that has a count has a mark, and so has one of a put
-abbrev pub IsMarkedFor : {D : Type 0} → House D → TxnId → RowFault → Type 0
-IsMarkedFor house by (row_fault.House (fault.Failed count)) = HasBroken house by count
-IsMarkedFor house by (row_fault.House fault.Store) = Unit {0}
-IsMarkedFor house by (row_fault.House fault.NoMemory) = Unit {0}
-IsMarkedFor house by (row_fault.Damaged place) = Unit {0}
+abbrev pub IsMarkedFor : {D : Type 0} → House D → TxnId → HouseFault → Type 0
+IsMarkedFor house by (fault.Failed count) = HasBroken house by count
+IsMarkedFor house by fault.Store = Unit {0}
+IsMarkedFor house by fault.NoMemory = Unit {0}
 
 abbrev pub IsPutMarkedFor : {D : Type 0} → House D → TxnId → HouseFault → Type 0
 IsPutMarkedFor house by (fault.Failed count) = HasBrokenPut house by count

@@ -8,7 +8,7 @@ ghost use Rattle.hv_history.specs.Legal.{AllFit, HasRoom};
 ghost use Rattle.hv_journal.specs.Appending.{Holds, KeepsTree};
 ghost use Rattle.hv_recovery.specs.Recovery.{IsJournalOf};
 ghost use Rattle.hv_trail.specs.Spare.{open_count};
-ghost use Rattle.hv_house.specs.Faults.{StoreCause, FileCause};
+ghost use Rattle.hv_house.specs.Faults.{StoreCause, FileCause, JournalCause};
 ghost use Rattle.hv_house.specs.House.{entries_of, book_limit, IsKept, IsReadyWithin, IsBeside};
 ghost use Rattle.hv_house.specs.Steps.{KeepsMarks, IsOpenedOver};
 ghost use Rattle.hv_house.specs.Booting.{boot_fault, lost_entry, opening_of, IsLearned, LosesSome, CutsOpening, IsCutOpening, IsRaiseFault, Opens, IsBootFault, IsBootStore, StopsOpening, NotesWithRoom, StopsWithRoom};
@@ -28,7 +28,7 @@ use std::snapshot::Snapshot;
 use thiserror::Error;
 
 /// Why a store was not opened.
-#[derive(Clone, Copy, Debug, PartialEq, Eq, Error)]
+#[derive(Clone, Copy, Debug, Error)]
 pub enum BootFault {
     /// The journal is bad at this byte: there is no gate, or an open one behind which no record stands
     /// whose entry fits.
@@ -109,6 +109,7 @@ impl<D: Shelf + Drop> House<D> {
         ensures tree { Moves KeepsTree (D.told self.old.shelf) (D.told self.new.shelf) }
         ensures marks { KeepsMarks self.old self.new }
         ensures cause { FileCause (D.faults self.old.shelf) (D.faults self.new.shelf) result }
+        ensures hard { JournalCause (D.hard self.old.shelf) (D.hard self.new.shelf) result }
     {
         let Ok(length) = self.shelf.journal_len() else {
             return Err(HouseFault::Store);
@@ -135,6 +136,7 @@ impl<D: Shelf + Drop> House<D> {
             LosesSome D.told fault unended.now self.old self.new) }
         ensures marks { KeepsMarks self.old self.new }
         ensures cause { FileCause (D.faults self.old.shelf) (D.faults self.new.shelf) result }
+        ensures hard { JournalCause (D.hard self.old.shelf) (D.hard self.new.shelf) result }
     {
         for i in 0..unended.len() {
             self.add(
@@ -164,6 +166,7 @@ impl<D: Shelf + Drop> House<D> {
             (entries_of self.old) (Boot runs ∷ map lost_entry unended.now) (D.told self.new.shelf)) }
         ensures marks { KeepsMarks self.old self.new }
         ensures cause { FileCause (D.faults self.old.shelf) (D.faults self.new.shelf) result }
+        ensures hard { JournalCause (D.hard self.old.shelf) (D.hard self.new.shelf) result }
     {
         self.make_journal()?;
         self.add(Entry::Boot { run: runs }, None)?;
@@ -196,6 +199,9 @@ impl<D: Shelf + Drop> House<D> {
         ensures later { IfOk result (λ house. D.faults shelf ≤ D.faults house.shelf) }
         ensures cause { IfErr result (λ x.
             StoreCause (D.faults shelf) (D.faults x.1) (IsBootStore x.0)) }
+        ensures hard_later { IfOk result (λ house. D.hard shelf ≤ D.hard house.shelf) }
+        ensures hard { IfErr result (λ x.
+            StoreCause (D.hard shelf) (D.hard x.1) (IsBootStore x.0)) }
         ensures roomy { IfErr result (λ x. Tells (D.told x.1)
             (λ s. NotesWithRoom limits book.entries s.journal)) }
     {
@@ -254,6 +260,9 @@ impl<D: Shelf + Drop> House<D> {
         ensures later { IfOk result (λ house. D.faults shelf ≤ D.faults house.shelf) }
         ensures cause { IfErr result (λ x.
             StoreCause (D.faults shelf) (D.faults x.1) (IsBootStore x.0)) }
+        ensures hard_later { IfOk result (λ house. D.hard shelf ≤ D.hard house.shelf) }
+        ensures hard { IfErr result (λ x.
+            StoreCause (D.hard shelf) (D.hard x.1) (IsBootStore x.0)) }
         ensures roomy { IfErr result (λ x. StopsWithRoom limits (D.told shelf) (D.told x.1)) }
     {
         let start = Snapshot::of(&shelf);

@@ -10,9 +10,10 @@ ghost use Rattle.hv_house.specs.declared.calls.EntryFault.TheVariants as fault;
 ghost use Rattle.hv_house.specs.House.{entries_of, IsSmall, IsReadyWithin};
 ghost use Rattle.hv_house.specs.Steps.{IsMarked};
 ghost use Rattle.hv_house.specs.Calls.{place_ended, HasEndedAt, HasNotEnded, HasNoRoom, IfOpen, CanBeGiven, next_id, next_given, next_table, next_create, IsHouseFault, EntryStepWithin};
+ghost use Rattle.hv_house.specs.Faults.{HardStep};
 
 use crate::fault::HouseFault;
-use crate::house::House;
+use crate::house::{House, discard};
 use hv_base::{List, TableId, Touch, TxnId, WriteId};
 use hv_book::Book;
 use hv_history::{Cause, Entry};
@@ -21,7 +22,7 @@ use hv_shelf::Shelf;
 use thiserror::Error;
 
 /// Why an entry of a transaction was not noted.
-#[derive(Clone, Copy, Debug, PartialEq, Eq, Error)]
+#[derive(Clone, Copy, Debug, Error)]
 pub enum EntryFault {
     /// The entry at this place ended the transaction.
     #[error("the transaction ended at {at}")]
@@ -52,8 +53,6 @@ pub(crate) fn ended_at(book: &Book, txn: TxnId) -> Option<u64>
     place_ended(state_of(book, txn))
 }
 
-fn discard<T: Drop>(_value: T) {}
-
 impl<D: Shelf> House<D> {
     /// Notes an entry that fits and has no text.
     pub(crate) fn note_entry(&mut self, entry: Entry) -> Result<(), EntryFault>
@@ -64,6 +63,8 @@ impl<D: Shelf> House<D> {
         requires fits { Fits limits (state_of (entries_of self.old)) entry }
         requires marked { IsMarked self.old entry }
         ensures step { EntryStepWithin limits D.told D.faults entry self.old self.new result }
+        ensures hard { HardStep (D.hard self.old.shelf) (D.hard self.new.shelf)
+            self.old.trail.closed self.new.trail.closed }
         ensures failed { IfErr result (λ why. IsHouseFault why) }
     {
         match self.note(entry, None) {
@@ -82,6 +83,8 @@ impl<D: Shelf> House<D> {
             → Fits limits (state_of (entries_of self.old)) entry }
         requires marked { IsMarked self.old entry }
         ensures step { EntryStepWithin limits D.told D.faults entry self.old self.new result }
+        ensures hard { HardStep (D.hard self.old.shelf) (D.hard self.new.shelf)
+            self.old.trail.closed self.new.trail.closed }
         ensures place { IfOk result (λ place. place ≡ length (entries_of self.old)) }
         ensures not_open { (at : ℕ) → IsErrOf result (fault.NotOpen at)
             ↔ HasEndedAt (entries_of self.old) txn.0 at }
@@ -111,6 +114,8 @@ impl<D: Shelf> House<D> {
             (next_given (entries_of self.old) txn table) }
         ensures step { EntryStepWithin limits D.told D.faults
             (next_given (entries_of self.old) txn table) self.old self.new result }
+        ensures hard { HardStep (D.hard self.old.shelf) (D.hard self.new.shelf)
+            self.old.trail.closed self.new.trail.closed }
         ensures write { IfOk result (λ write. write.0 ≡ next_id (entries_of self.old) table.0) }
         ensures failed { IfErr result (λ why. IsHouseFault why) }
     {
@@ -135,6 +140,8 @@ impl<D: Shelf> House<D> {
             (CanBeGiven (state_of (entries_of self.old)) table.0) }
         ensures step { EntryStepWithin limits D.told D.faults
             (next_given (entries_of self.old) txn table) self.old self.new result }
+        ensures hard { HardStep (D.hard self.old.shelf) (D.hard self.new.shelf)
+            self.old.trail.closed self.new.trail.closed }
         ensures write { IfOk result (λ write. write.0 ≡ next_id (entries_of self.old) table.0) }
         ensures not_open { (at : ℕ) → IsErrOf result (fault.NotOpen at)
             ↔ HasEndedAt (entries_of self.old) txn.0 at }
@@ -168,6 +175,8 @@ impl<D: Shelf> House<D> {
         requires marked { IsMarked self.old (entries.Commit txn wrote) }
         ensures step { EntryStepWithin limits D.told D.faults
             (entries.Commit txn wrote) self.old self.new result }
+        ensures hard { HardStep (D.hard self.old.shelf) (D.hard self.new.shelf)
+            self.old.trail.closed self.new.trail.closed }
         ensures place { IfOk result (λ place. place ≡ length (entries_of self.old)) }
         ensures not_open { (at : ℕ) → IsErrOf result (fault.NotOpen at)
             ↔ HasEndedAt (entries_of self.old) txn.0 at }
@@ -189,6 +198,8 @@ impl<D: Shelf> House<D> {
         requires marked { IsMarked self.old (entries.Abort txn cause) }
         ensures step { EntryStepWithin limits D.told D.faults
             (entries.Abort txn cause) self.old self.new result }
+        ensures hard { HardStep (D.hard self.old.shelf) (D.hard self.new.shelf)
+            self.old.trail.closed self.new.trail.closed }
         ensures place { IfOk result (λ place. place ≡ length (entries_of self.old)) }
         ensures not_open { (at : ℕ) → IsErrOf result (fault.NotOpen at)
             ↔ HasEndedAt (entries_of self.old) txn.0 at }
@@ -208,6 +219,8 @@ impl<D: Shelf> House<D> {
             (CreateFits (state_of (entries_of self.old)) (next_table (entries_of self.old))) }
         ensures step { EntryStepWithin limits D.told D.faults
             (next_create (entries_of self.old) txn) self.old self.new result }
+        ensures hard { HardStep (D.hard self.old.shelf) (D.hard self.new.shelf)
+            self.old.trail.closed self.new.trail.closed }
         ensures table { IfOk result (λ table. table.0 ≡ next_table (entries_of self.old)) }
         ensures not_open { (at : ℕ) → IsErrOf result (fault.NotOpen at)
             ↔ HasEndedAt (entries_of self.old) txn.0 at }
@@ -231,6 +244,8 @@ impl<D: Shelf> House<D> {
             (DropFits (state_of (entries_of self.old)) table.0) }
         ensures step { EntryStepWithin limits D.told D.faults
             (entries.Drop txn table) self.old self.new result }
+        ensures hard { HardStep (D.hard self.old.shelf) (D.hard self.new.shelf)
+            self.old.trail.closed self.new.trail.closed }
         ensures place { IfOk result (λ place. place ≡ length (entries_of self.old)) }
         ensures not_open { (at : ℕ) → IsErrOf result (fault.NotOpen at)
             ↔ HasEndedAt (entries_of self.old) txn.0 at }

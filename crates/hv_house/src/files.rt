@@ -1,12 +1,13 @@
-ghost use Rattle.std.specs.Prelude.{◌≡◌, ◌↔◌, ℕ, ◌<◌, List, false, IsTrue, OnOk};
+ghost use Rattle.std.specs.Prelude.{◌≡◌, ◌↔◌, ℕ, ◌<◌, List, false, IsTrue, OnOk, IsErrOf};
 ghost use Rattle.hv_base.specs.declared.ids.Limits.{Limits};
 ghost use Rattle.hv_table_rows.specs.Putting.{CanPut, IsEncoded, bytes_of};
 ghost use Rattle.hv_trail.specs.declared.trail.Reader.TheVariants.{Txn};
 ghost use Rattle.hv_trail.specs.Trail.{broken, HasWritten};
 ghost use Rattle.hv_trail.specs.Kept.{trail_of};
 ghost use Rattle.hv_trail.specs.Steps as calls;
+ghost use Rattle.hv_shelf.specs.declared.fault.ShelfFault.TheVariants as shelf_fault;
 ghost use Rattle.hv_shelf.specs.declared.place.Place.{Place};
-ghost use Rattle.hv_house.specs.Faults.{house_fault, put_result};
+ghost use Rattle.hv_house.specs.Faults.{house_fault, put_result, HardStep, ShutsAtLast};
 ghost use Rattle.hv_house.specs.House.{entries_of, IsReadyWithin};
 ghost use Rattle.hv_house.specs.Steps.{outcome_of, fault_outcome, GainsBy, IsOwnFile, PutStepWithin};
 
@@ -28,6 +29,8 @@ impl<D: Shelf> House<D> {
         ensures shelf { self.new.shelf ≡ self.old.shelf }
         ensures gains { (place : Place) (bytes : List ℕ)
             → GainsBy (calls.Put (Txn by) place bytes) (fault_outcome result) self.old self.new }
+        ensures last { ShutsAtLast (fault ≡ shelf_fault.Failed) (D.faults self.old.shelf)
+            self.old.trail.closed self.new.trail.closed }
     {
         match fault {
             ShelfFault::Failed => self.fail(Some(Reader::Txn(by)), true),
@@ -48,6 +51,8 @@ impl<D: Shelf> House<D> {
         ensures shelf { self.new.shelf ≡ self.old.shelf }
         ensures gains { (bytes : List ℕ) → GainsBy (calls.Put (Txn by) place bytes) (outcome_of result)
             self.old self.new }
+        ensures last { ShutsAtLast (IsErrOf done shelf_fault.Failed) (D.faults self.old.shelf)
+            self.old.trail.closed self.new.trail.closed }
     {
         match done {
             Ok(()) => {
@@ -77,6 +82,8 @@ impl<D: Shelf> House<D> {
         requires can { CanPut file.now }
         requires own { IsOwnFile (entries_of self.old) by place file.now }
         ensures put { PutStepWithin limits D.told D.faults by place (bytes_of file.now) self.old self.new result }
+        ensures hard { HardStep (D.hard self.old.shelf) (D.hard self.new.shelf)
+            self.old.trail.closed self.new.trail.closed }
         ensures encoded { OnOk result (IsEncoded file.now) }
     {
         match self.trail.reserve_mark() {

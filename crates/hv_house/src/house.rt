@@ -8,7 +8,7 @@ ghost use Rattle.hv_history.specs.Book.{tree_of_entry};
 ghost use Rattle.hv_journal.specs.Appending.{Holds, KeepsTree};
 ghost use Rattle.hv_trail.specs.Steps.{Step};
 ghost use Rattle.hv_trail.specs.Steps as calls;
-ghost use Rattle.hv_house.specs.Faults.{FileCause, EndsRun};
+ghost use Rattle.hv_house.specs.Faults.{FileCause, EndsRun, HardStep};
 ghost use Rattle.hv_house.specs.House.{entries_of, entry_limit, book_limit, IsSmall, IsKept, AreNoted, IsNoted, AreHalted, IsHalted};
 ghost use Rattle.hv_house.specs.Steps.{seen_of, outcome_of, KeepsMarks, ClosesBy};
 ghost use Rattle.hv_trail.specs.Kept.{trail_of};
@@ -42,7 +42,7 @@ pub struct House<D> {
     pub(crate) limits: Limits,
 }
 
-fn discard<T: Drop>(_value: T) {}
+pub(crate) fn discard<T: Drop>(_value: T) {}
 
 impl<D: Shelf> House<D> {
     /// Makes room for these entries and writes them into the journal, all of them or none.
@@ -67,6 +67,8 @@ impl<D: Shelf> House<D> {
         ensures stays { OnErr result (self.new.place ≡ self.old.place) }
         ensures ends { IfErr result EndsRun }
         ensures cause { FileCause (D.faults self.old.shelf) (D.faults self.new.shelf) result }
+        ensures hard { HardStep (D.hard self.old.shelf) (D.hard self.new.shelf)
+            self.old.trail.closed self.new.trail.closed }
     {
         self.buffer.reserve(records_length(first, more))?;
         self.trail.reserve_for(first, more.len())?;
@@ -102,6 +104,8 @@ impl<D: Shelf> House<D> {
         ensures stays { OnErr result (self.new.place ≡ self.old.place) }
         ensures ends { IfErr result EndsRun }
         ensures cause { FileCause (D.faults self.old.shelf) (D.faults self.new.shelf) result }
+        ensures hard { HardStep (D.hard self.old.shelf) (D.hard self.new.shelf)
+            self.old.trail.closed self.new.trail.closed }
     {
         match self.write(&entry, &[]) {
             Ok(()) => {
@@ -140,6 +144,8 @@ impl<D: Shelf> House<D> {
         ensures stays { OnErr result (self.new.place ≡ self.old.place) }
         ensures ends { IfErr result EndsRun }
         ensures cause { FileCause (D.faults self.old.shelf) (D.faults self.new.shelf) result }
+        ensures hard { HardStep (D.hard self.old.shelf) (D.hard self.new.shelf)
+            self.old.trail.closed self.new.trail.closed }
     {
         let start = Entry::Start { txn, statement: 0 };
         self.write(entry, from_ref(&start))
@@ -171,6 +177,8 @@ impl<D: Shelf> House<D> {
         ensures stays { OnErr result (self.new.place ≡ self.old.place) }
         ensures ends { IfErr result EndsRun }
         ensures cause { FileCause (D.faults self.old.shelf) (D.faults self.new.shelf) result }
+        ensures hard { HardStep (D.hard self.old.shelf) (D.hard self.new.shelf)
+            self.old.trail.closed self.new.trail.closed }
     {
         match self.write_with_start(&entry, txn) {
             Ok(()) => {

@@ -6,11 +6,13 @@ use hv_shelf::Shelf;
 
 impl<D: Shelf + Drop> Housed<D> for House<D> {
     ghost use Rattle.hv_house.specs.Steps.{seen_of};
-    ghost use Rattle.hv_house.specs.Housed.{IsReadyOrClosed};
+    ghost use Rattle.hv_house.specs.Housed.{IsReadyOrClosed, ShutsHard};
 
     ghost seen = { seen_of };
 
     ghost keeps = { IsReadyOrClosed D.told };
+
+    ghost shuts = { λ h. ShutsHard D.hard (seen_of h) };
 
     fn items(&self) -> u64 {
         self.trail.items()

@@ -20,7 +20,7 @@ mod opening;
 
 pub use boot::BootFault;
 pub use calls::EntryFault;
-pub use fault::{HouseFault, RowFault};
+pub use fault::HouseFault;
 pub use house::House;
-pub use laws::{seen_is_content, who_waits_can_start};
+pub use laws::who_waits_can_start;
 pub use listing::{GetFault, Listing};

@@ -10,8 +10,8 @@ ghost use Rattle.hv_stands.specs.Reading.{table_of_name};
 ghost use Rattle.hv_trail.specs.declared.trail.Reader.TheVariants.{Txn};
 ghost use Rattle.hv_trail.specs.Steps.{Step};
 ghost use Rattle.hv_trail.specs.Steps as calls;
-ghost use Rattle.hv_house.specs.declared.fault.RowFault.TheVariants as row_fault;
-ghost use Rattle.hv_house.specs.Faults.{FileCause, house_fault};
+ghost use Rattle.hv_shelf.specs.declared.fault.ShelfFault.TheVariants as shelf_fault;
+ghost use Rattle.hv_house.specs.Faults.{FileCause, house_fault, ShutsAtLast, HardStep};
 ghost use Rattle.hv_house.specs.House.{entries_of, IsAsked, IsReadyWithin, StaysPutWithin};
 ghost use Rattle.hv_house.specs.Seeing.{ids_in};
 ghost use Rattle.hv_house.specs.Steps.{seen_of, fault_outcome, outcome_of, GainsBy, IsMarkedFor};
@@ -73,6 +73,8 @@ impl<D: Shelf> House<D> {
         ensures shelf { self.new.shelf ≡ self.old.shelf }
         ensures gains { GainsBy (calls.Read (Some (Txn by))) (fault_outcome result)
             self.old self.new }
+        ensures last { ShutsAtLast (fault ≡ shelf_fault.Failed) (D.faults self.old.shelf)
+            self.old.trail.closed self.new.trail.closed }
     {
         match fault {
             ShelfFault::Failed => self.fail(Some(Reader::Txn(by)), false),
@@ -87,6 +89,8 @@ impl<D: Shelf> House<D> {
         ensures places { IfOk result (λ places. Tells (D.told self.old.shelf)
             (λ s. places.items ≡ places_of table s.tree)) }
         ensures read { ReadStep D.told D.faults by self.old self.new result }
+        ensures hard { HardStep (D.hard self.old.shelf) (D.hard self.new.shelf)
+            self.old.trail.closed self.new.trail.closed }
     {
         self.trail.reserve_mark()?;
         match self.shelf.list(alloc, table) {
@@ -107,6 +111,8 @@ impl<D: Shelf> House<D> {
         ensures bytes { IfOk result (λ file. Tells (D.told self.old.shelf)
             (λ s. option_map (λ v. v.items) file ≡ tree.get s.tree place.now)) }
         ensures read { ReadStep D.told D.faults by self.old self.new result }
+        ensures hard { HardStep (D.hard self.old.shelf) (D.hard self.new.shelf)
+            self.old.trail.closed self.new.trail.closed }
     {
         self.trail.reserve_mark()?;
         match self.shelf.get(alloc, place) {
@@ -130,6 +136,8 @@ impl<D: Shelf> House<D> {
         ensures files { IfOk result (λ listing. Tells (D.told self.old.shelf)
             (λ s. AreTaken table listing.list s.tree listing.inserts.items listing.deletes.items)) }
         ensures read { ReadStep D.told D.faults by self.old self.new result }
+        ensures hard { HardStep (D.hard self.old.shelf) (D.hard self.new.shelf)
+            self.old.trail.closed self.new.trail.closed }
     {
         let list = list_at(alloc, self.trail.book(), place as usize, table)?;
         let places = self.places(alloc, by, table)?;
@@ -177,10 +185,12 @@ impl<D: Shelf> House<D> {
             (λ s. AreTaken table listing.list s.tree listing.inserts.items listing.deletes.items)) }
         ensures ready { IfOk result (λ _. IsReadyWithin limits D.told self.new) }
         ensures stays { IfErr result (λ why. StaysPutWithin limits D.told why self.new) }
-        ensures marked { IfErr result (λ why. IsMarkedFor self.new by (row_fault.House why)) }
+        ensures marked { IfErr result (IsMarkedFor self.new by) }
         ensures step { Step D.told D.faults (calls.Read (Some (Txn by))) (outcome_of result)
             (seen_of self.old) (seen_of self.new) }
         ensures cause { FileCause (D.faults self.old.shelf) (D.faults self.new.shelf) result }
+        ensures hard { HardStep (D.hard self.old.shelf) (D.hard self.new.shelf)
+            self.old.trail.closed self.new.trail.closed }
     {
         self.files_at(alloc, by, place, table)
     }
@@ -207,6 +217,8 @@ impl<D: Shelf> House<D> {
         ensures step { Step D.told D.faults (calls.Read (Some (Txn by))) (get_outcome result)
             (seen_of self.old) (seen_of self.new) }
         ensures cause { GetCause (D.faults self.old.shelf) (D.faults self.new.shelf) result }
+        ensures hard { HardStep (D.hard self.old.shelf) (D.hard self.new.shelf)
+            self.old.trail.closed self.new.trail.closed }
     {
         match self.file_at(alloc, by, place) {
             Ok(Some(bytes)) => Ok(bytes),

@@ -9,7 +9,7 @@ ghost use Rattle.hv_journal.specs.Appending.{KeepsTree};
 ghost use Rattle.hv_stands.specs.Running.{next_number};
 ghost use Rattle.hv_trail.specs.Steps.{Step};
 ghost use Rattle.hv_trail.specs.Steps as calls;
-ghost use Rattle.hv_house.specs.Faults.{FileCause, EndsRun};
+ghost use Rattle.hv_house.specs.Faults.{FileCause, EndsRun, HardStep};
 ghost use Rattle.hv_house.specs.House.{entries_of, IsSmall, BeginFitsWithin, beginning_of, IsReadyWithin, StaysReadyWithin, AreNoted, IsNoted, AreHalted, IsHalted};
 ghost use Rattle.hv_house.specs.Steps.{seen_of, outcome_of, IsMarked};
 
@@ -40,6 +40,8 @@ impl<D: Shelf> House<D> {
         ensures step { Step D.told D.faults (calls.Note entry) (outcome_of result)
             (seen_of self.old) (seen_of self.new) }
         ensures cause { FileCause (D.faults self.old.shelf) (D.faults self.new.shelf) result }
+        ensures hard { HardStep (D.hard self.old.shelf) (D.hard self.new.shelf)
+            self.old.trail.closed self.new.trail.closed }
     {
         self.add(entry, tree)
     }
@@ -75,6 +77,8 @@ impl<D: Shelf> House<D> {
             (calls.Begin (record { 0 = next_number (entries_of self.old) }) session number text)
             (outcome_of result) (seen_of self.old) (seen_of self.new) }
         ensures cause { FileCause (D.faults self.old.shelf) (D.faults self.new.shelf) result }
+        ensures hard { HardStep (D.hard self.old.shelf) (D.hard self.new.shelf)
+            self.old.trail.closed self.new.trail.closed }
     {
         let book = self.trail.book();
         let txn = next_txn(book);

@@ -9,6 +9,7 @@ ghost use Rattle.hv_stands.specs.Running.{next_number, opening};
 ghost use Rattle.hv_house.specs.declared.calls.EntryFault.TheVariants as fault;
 ghost use Rattle.hv_house.specs.House.{entries_of, IsReadyWithin};
 ghost use Rattle.hv_house.specs.Calls.{HasEndedAt, HasNoRoom, LacksRoom, IfOpen, CanStart, IsHouseFault, EntryStepWithin};
+ghost use Rattle.hv_house.specs.Faults.{HardStep};
 
 use crate::calls::{EntryFault, ended_at};
 use crate::house::House;
@@ -35,6 +36,8 @@ impl<D: Shelf> House<D> {
         requires room { HasRoom limits (state_of (entries_of self.old)) 2 }
         ensures step { EntryStepWithin limits D.told D.faults (opening (entries_of self.old)
             (record { session = session; number = number; text = text })) self.old self.new result }
+        ensures hard { HardStep (D.hard self.old.shelf) (D.hard self.new.shelf)
+            self.old.trail.closed self.new.trail.closed }
         ensures txn { IfOk result (λ txn. txn.0 ≡ next_number (entries_of self.old)) }
         ensures failed { IfErr result (λ why. IsHouseFault why) }
     {
@@ -71,6 +74,8 @@ impl<D: Shelf> House<D> {
         requires named { length session ≤ 32 }
         ensures step { EntryStepWithin limits D.told D.faults (opening (entries_of self.old)
             (record { session = session; number = number; text = text })) self.old self.new result }
+        ensures hard { HardStep (D.hard self.old.shelf) (D.hard self.new.shelf)
+            self.old.trail.closed self.new.trail.closed }
         ensures txn { IfOk result (λ txn. txn.0 ≡ next_number (entries_of self.old)) }
         ensures not_ended { (at : ℕ) → IsErrOf result (fault.NotOpen at) → ⊥ }
         ensures full { (count : ℕ) → IsErrOf result (fault.Full count)
@@ -93,6 +98,8 @@ impl<D: Shelf> House<D> {
         requires fits { Fits limits (state_of (entries_of self.old)) (entries.Start txn 0) }
         ensures step { EntryStepWithin limits D.told D.faults
             (entries.Start txn 0) self.old self.new result }
+        ensures hard { HardStep (D.hard self.old.shelf) (D.hard self.new.shelf)
+            self.old.trail.closed self.new.trail.closed }
         ensures place { IfOk result (λ place. place ≡ length (entries_of self.old)) }
         ensures failed { IfErr result (λ why. IsHouseFault why) }
     {
@@ -116,6 +123,8 @@ impl<D: Shelf> House<D> {
             (CanStart (state_of (entries_of self.old))) }
         ensures step { EntryStepWithin limits D.told D.faults
             (entries.Start txn 0) self.old self.new result }
+        ensures hard { HardStep (D.hard self.old.shelf) (D.hard self.new.shelf)
+            self.old.trail.closed self.new.trail.closed }
         ensures place { IfOk result (λ place. place ≡ length (entries_of self.old)) }
         ensures not_open { (at : ℕ) → IsErrOf result (fault.NotOpen at)
             ↔ HasEndedAt (entries_of self.old) txn.0 at }

@@ -25,7 +25,7 @@ use Rattle.hv_history.specs.declared.state.Table.{Table}
 use Rattle.hv_history.specs.declared.state.Transaction.{Transaction}
 use Rattle.hv_history.specs.declared.state.Written.{Written}
 use Rattle.hv_history.specs.State.{State, nothing_yet, numbered, changed, changed_at, unless_ended, while_open, opened, started, given_id, given_in, owned, dropped, written_to, committed, ended, wrote_as, writes_of, written_by, commits, statement_meaning, meaning, tables_behind, made_by, acted, after}
-use Rattle.hv_history.specs.Legal.{Fits, CommitFits, GivenFits, TouchesAreMeant, IsTruthful, AllFit, AllTruthful}
+use Rattle.hv_history.specs.Legal.{Fits, CommitFits, GivenFits, TouchesAreMeant, CommitIsTrue, IsTruthful, AllFit, AllTruthful}
 use Rattle.hv_book.specs.Commits.{wrote_by, wrote_in}
 use Rattle.hv_book.specs.Past.{total, only_if, owners_in}
 use Rattle.hv_stands.specs.Files.{ending_of}
@@ -520,11 +520,11 @@ module _ (deletes : Bool) (partition : List ℕ) where
       said
   step limits s (entry.Commit txn wrote) fits is sound said = λ k w other owner.
       let here = found (CommitFits s wrote) (numbered s.transactions txn.0) fits in
-      let true_of = found (λ (t : Transaction). TouchesAreMeant wrote (meaning t)) (numbered s.transactions txn.0) is in
+      let true_of = found (CommitIsTrue s txn.0 wrote) (numbered s.transactions txn.0) is in
       let one_of : true_of.0 ≡ here.0 = same_one (numbered s.transactions txn.0) true_of.0 here.0 true_of.1 here.1 in
       let same = ap (λ o. tables_behind (commits o) s.tables) here.1 in
       commit-step s txn.0 here.0 wrote sound here.1 (still-open here.0 here.2.running.unended)
-      (subst (λ (t : Transaction). TouchesAreMeant wrote (meaning t)) one_of true_of.2) said k w other
+      (subst (λ (t : Transaction). TouchesAreMeant wrote (meaning t)) one_of true_of.2.touches) said k w other
       (ap (λ tables. numbered (owners_in (numbered tables k)) w) (sym same) ∙ owner)
       ∙ ap (λ tables. written_sum deletes w partition (writes_in (numbered tables k))) (sym same)
   step limits s (entry.Abort txn cause) fits is sound said =

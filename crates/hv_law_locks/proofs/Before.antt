@@ -1,5 +1,5 @@
 -- What a transaction that is open behind an entry was before it.
-use Rattle.std.proofs.Common.{◌≡◌, ℕ, zero, suc, ◌⊎◌, inl, inr, Bool, true, false, is_none, is_some, Option, Some, None, List, [], ◌∷◌, refl, sym, ap, ◌∙◌, subst, arith}
+use Rattle.std.proofs.Common.{◌≡◌, ℕ, zero, suc, ◌⊎◌, inl, inr, Bool, true, false, is_none, is_some, Option, Some, None, List, [], ◌∷◌, refl, sym, ap, ◌∙◌, subst, arith, length}
 use Rattle.std.specs.Prelude.{IsTrue, IsFalse, slice_get}
 use Rattle.std.specs.List.{list_any}
 use Rattle.hv_history.specs.declared.state.Statement.{Statement}
@@ -114,7 +114,7 @@ started-locks state number t = locks-kept (meant_in state) (λ s. refl) t.statem
 pub record IsStartedHere (state : State) (k n : ℕ) (t now : Transaction) : Type 0 where
   pub same : k ≡ n
   pub locks : locks_of now ≡ locks_of t
-  pub snapshot : now.snapshot ≡ Some (record { place = state.entries; tables = state.tables })
+  pub snapshot : now.snapshot ≡ Some (record { place = state.entries; tables = state.tables; opened = length state.transactions })
 
 first-snapshot : (o : Option Snapshot) (s : Snapshot) → is_some o ≡ false → first_of o s ≡ Some s
 first-snapshot None s e = refl

@@ -108,7 +108,7 @@ module _ (limits : Limits) (state : State) (number : ℕ) (txn : TxnId) (t : Tra
   names-started n x s unended snapshot (inl same) = hold.names n x same.1 s unended snapshot
   names-started n x s unended snapshot (inr is) =
       all-names s.tables state.tables
-      (snapshot-tables (record { place = state.entries; tables = state.tables }) s (sym is.snapshot ∙ snapshot)) (locks_of x)
+      (snapshot-tables (record { place = state.entries; tables = state.tables; opened = length state.transactions }) s (sym is.snapshot ∙ snapshot)) (locks_of x)
 
   starts-on : LocksHold (after state (entry.Start txn number))
   unfolding acted

@@ -85,7 +85,7 @@ opened-settled session number text = record { bare = λ none. refl; readable = �
 
 started-settled : (s : State) (n : ℕ) (t : Transaction) → IsSound s → IsSettled t → IsSettled (started s n t)
 started-settled s n t sound settled = record {
-  bare = λ none. absurd (first-some t.snapshot (record { place = s.entries; tables = s.tables }) none);
+  bare = λ none. absurd (first-some t.snapshot (record { place = s.entries; tables = s.tables; opened = length s.transactions }) none);
   readable = λ info effect e. by info effect (meaning-started s t.statements n (Change info effect) e);
 }
   where

@@ -1,5 +1,5 @@
 -- A transaction that goes on by legal entries in order goes on as one thread carries it on.
-use Rattle.std.proofs.Common.{◌≡◌, ℕ, zero, suc, ◌≤◌, Option, Some, None, List, [], ◌∷◌, ◌++◌, refl, sym, ap, ◌∙◌, subst, append-nil, append_assoc, fold, arith}
+use Rattle.std.proofs.Common.{◌≡◌, ℕ, zero, suc, ◌+◌, ◌<◌, ◌≤◌, Option, Some, None, List, [], ◌∷◌, ◌++◌, refl, sym, ap, ◌∙◌, subst, append-nil, append_assoc, fold, arith}
 use Rattle.std.specs.Prelude.{if◌then◌else◌, true}
 use Rattle.hv_base.specs.declared.ids.Limits.{Limits}
 use Rattle.hv_base.specs.declared.gate.Stage.{Stage}
@@ -8,6 +8,7 @@ use Rattle.hv_history.specs.declared.entry.Entry.TheVariants as entry
 use Rattle.hv_history.specs.declared.entry.Cause.TheVariants as cause
 use Rattle.hv_history.specs.declared.state.Ending.{Ending}
 use Rattle.hv_history.specs.declared.state.Transaction.{Transaction}
+use Rattle.hv_history.specs.Asking.{listed_in}
 use Rattle.hv_history.specs.State.{State, numbered, nothing_yet, after, state_of}
 use Rattle.hv_history.specs.Legal.{AllFit, AllTruthful, IsLegalFrom, IsLegal, is_started, profile}
 use Rattle.hv_stands.specs.Sound.{IsSound}
@@ -18,7 +19,7 @@ use Rattle.hv_stands.proofs.Fitting.{fitting-sound}
 use Rattle.hv_law_next.specs.Next.{comes_before, if_before, due_of, due, with_one, steps, carried_on, by_ending, next_of}
 use Rattle.hv_law_next.specs.Order.{AreSteady, AllInOrder}
 use Rattle.hv_law_next.specs.Carrying.{started_of, AreBefore, IsRunningStore, CarriesOn}
-use Rattle.hv_law_next.proofs.Nexts.{rank, rank-within, IsGood, next-is}
+use Rattle.hv_law_next.proofs.Nexts.{rank, rank-within, listed, IsGood, next-is}
 
 -- ---- entries that are good one behind another
 
@@ -46,7 +47,7 @@ all-before txn book (event ∷ more) = (refl, all-before txn (book ++ event ∷ 
 
 -- ---- nothing is due any more
 
-idle : (n : ℕ) (hold : Option Stage) (txn : ℕ) (book : List Entry) → due hold (state_of book) txn ≡ None → steps n hold txn book ≡ book
+pub idle : (n : ℕ) (hold : Option Stage) (txn : ℕ) (book : List Entry) → due hold (state_of book) txn ≡ None → steps n hold txn book ≡ book
 idle zero hold txn book none = refl
 idle (suc n) hold txn book none = ap (λ o. steps n hold txn (with_one book o)) none ∙ idle n hold txn book none
 
@@ -76,7 +77,7 @@ is-due hold txn book t event at next before =
     ∙ ap (λ b. if b then Some event else None) (sym (ap (λ o. comes_before hold (started_of o) event) at) ∙ before)
 
 goes-on : (n : ℕ) (hold : Option Stage) (txn : ℕ) (book added : List Entry) (t : Transaction) → numbered (state_of book).transactions txn ≡ Some t
-    → IsSound (state_of book) → IsRunningStore (state_of book) → AreGood txn book added → AreBefore hold txn book added → rank t ≤ n → due hold (state_of (book ++ added)) txn ≡ None
+    → IsSound (state_of book) → IsRunningStore (state_of book) → AreGood txn book added → AreBefore hold txn book added → rank (state_of book) txn t ≤ n → due hold (state_of (book ++ added)) txn ≡ None
     → steps n hold txn book ≡ book ++ added
 goes-on n hold txn book [] t at sound running good before most none =
     idle n hold txn book (ap (λ xs. due hold (state_of xs) txn) (sym (append-nil book)) ∙ none) ∙ sym (append-nil book)
@@ -86,7 +87,8 @@ goes-on zero hold txn book (event ∷ more) t at sound running good before most 
     absurd (omega (arith, fewer, most))
 goes-on (suc n) hold txn book (event ∷ more) t at sound running good before most none =
     let next = next-is book txn t event at sound running good.0 in
-    let fewer = next.later.fewer in
+    let fewer : rank (state_of (book ++ event ∷ [])) txn next.later.t < rank (state_of book) txn t =
+    subst (λ s. rank s txn next.later.t < rank (state_of book) txn t) (sym (one-behind book event)) next.later.fewer in
     ap (λ o. steps n hold txn (with_one book o)) (is-due hold txn book t event at next.next before.0)
     ∙ goes-on n hold txn (book ++ event ∷ []) more next.later.t
     (numbered-behind book event txn (Some next.later.t) next.later.there)
@@ -100,7 +102,9 @@ pub carries-on : (hold : Option Stage) (txn : ℕ) (book added : List Entry) (t 
     → IsSound (state_of book) → IsRunningStore (state_of book) → AreGood txn book added → AreBefore hold txn book added → due hold (state_of (book ++ added)) txn ≡ None
     → carried_on hold txn book ≡ book ++ added
 unfolding carried_on
-carries-on hold txn book added t at sound running good before none = goes-on 3 hold txn book added t at sound running good before (rank-within t) none
+carries-on hold txn book added t at sound running good before none =
+    ap (λ (o : Option Transaction). steps (3 + listed_in o) hold txn book) at
+    ∙ goes-on (3 + listed t) hold txn book added t at sound running good before (rank-within (state_of book) txn t) none
 
 -- ---- a legal book in two parts
 

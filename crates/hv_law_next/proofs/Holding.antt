@@ -13,10 +13,11 @@ use Rattle.hv_history.specs.declared.entry.Entry.{Entry}
 use Rattle.hv_history.specs.declared.entry.Cause.TheVariants as cause
 use Rattle.hv_history.specs.declared.state.Transaction.{Transaction}
 use Rattle.hv_history.specs.State.{State, meaning}
-use Rattle.hv_history.specs.Legal.{IsRunning, place_of_snapshot}
+use Rattle.hv_history.specs.Asking.{asked_by}
+use Rattle.hv_history.specs.Legal.{IsRunning, HasAsked, place_of_snapshot}
 use Rattle.hv_stands.proofs.Keeping.{still-open}
-use Rattle.hv_law_next.specs.Next.{Meeting, abort, first_met, lacks_room, needs_id, giving, ending_change, changing, by_meaning, by_start, by_ending, next_of, if_before, due_of}
-use Rattle.hv_law_next.specs.Carrying.{IsUnrefused, IsToCommit, IsAtHold, StaysAtHold}
+use Rattle.hv_law_next.specs.Next.{Meeting, abort, first_met, lacks_room, needs_id, giving, ending_change, changing, asking_or_end, by_meaning, by_start, by_ending, next_of, if_before, due_of}
+use Rattle.hv_law_next.specs.Carrying.{IsUnrefused, IsToCommit, IsAtHold, HasAskedAt, StaysAtHold}
 
 none-start : (o : Option Entry) → if_before (Some stage.Start) true o ≡ None
 none-start None = refl
@@ -43,6 +44,10 @@ module _ (state : State) (txn : ℕ) (t : Transaction) where
       by None = refl
       by (Some meeting) = refl
 
+  by-read-idle : (o : Option ℕ) → if_before (Some stage.Read) true (Some (asking_or_end txn o)) ≡ None
+  by-read-idle None = refl
+  by-read-idle (Some other) = refl
+
   by-read : (o : Option Meaning) → IsUnrefused o → if_before (Some stage.Read) true (by_meaning state txn t o) ≡ None
   by-read None at = refl
   by-read (Some (Refused why)) at = absurd at
@@ -50,7 +55,7 @@ module _ (state : State) (txn : ℕ) (t : Transaction) where
   by-read (Some (Change info effect)) at = unread info effect (needs_id t.given (Some (Change info effect)))
   by-read (Some (Make shape)) at = refl
   by-read (Some (Unmake table)) at = refl
-  by-read (Some Plain) at = refl
+  by-read (Some Plain) at = by-read-idle (asked_by state txn t)
   by-read (Some (Twice region row)) at = refl
   by-read (Some RowLimit) at = refl
   by-read (Some PartitionLimit) at = refl
@@ -59,35 +64,47 @@ module _ (state : State) (txn : ℕ) (t : Transaction) where
   committing wrote None = refl
   committing wrote (Some meeting) = refl
 
-  by-commit : (o : Option Meaning) → IsToCommit t.given o → if_before (Some stage.Commit) true (by_meaning state txn t o) ≡ None
-  by-commit None at = refl
-  by-commit (Some (Refused why)) at = absurd at
-  by-commit (Some (Listing names rows)) at = refl
-  by-commit (Some (Change info effect)) at =
+  by-commit : (o : Option Meaning) → IsToCommit t.given o → HasAsked state txn t o → if_before (Some stage.Commit) true (by_meaning state txn t o) ≡ None
+  by-commit None at all = refl
+  by-commit (Some (Refused why)) at all = absurd at
+  by-commit (Some (Listing names rows)) at all = refl
+  by-commit (Some (Change info effect)) at all =
       ap (λ b. if_before (Some stage.Commit) true (Some (changing state txn t info effect b))) at
       ∙ committing (touches_of info effect) (first_met (place_of_snapshot t.snapshot) (touches_of info effect) 1 state.transactions)
-  by-commit (Some (Make shape)) at = refl
-  by-commit (Some (Unmake table)) at = refl
-  by-commit (Some Plain) at = refl
-  by-commit (Some (Twice region row)) at = absurd at
-  by-commit (Some RowLimit) at = absurd at
-  by-commit (Some PartitionLimit) at = absurd at
+  by-commit (Some (Make shape)) at all = refl
+  by-commit (Some (Unmake table)) at all = refl
+  by-commit (Some Plain) at all = ap (λ o. if_before (Some stage.Commit) true (Some (asking_or_end txn o))) all
+  by-commit (Some (Twice region row)) at all = absurd at
+  by-commit (Some RowLimit) at all = absurd at
+  by-commit (Some PartitionLimit) at all = absurd at
 
-  at-hold : (hold : Option Stage) (o : Option Meaning) → IsAtHold hold t.given o → if_before hold true (by_meaning state txn t o) ≡ None
-  at-hold None o at = absurd at
-  at-hold (Some stage.Start) o at = none-start (by_meaning state txn t o)
-  at-hold (Some stage.Read) o at = by-read o at
-  at-hold (Some stage.Commit) o at = by-commit o at
-  at-hold (Some stage.Taken) o at = none-taken (by_meaning state txn t o)
-  at-hold (Some stage.Replied) o at = none-replied (by_meaning state txn t o)
+  abbrev AskedThere : Option Stage → Option Meaning → Type 0
+  AskedThere (Some stage.Commit) o = HasAsked state txn t o
+  AskedThere hold o = Unit {0}
+
+  at-hold : (hold : Option Stage) (o : Option Meaning) → IsAtHold hold t.given o → AskedThere hold o → if_before hold true (by_meaning state txn t o) ≡ None
+  at-hold None o at all = absurd at
+  at-hold (Some stage.Start) o at all = none-start (by_meaning state txn t o)
+  at-hold (Some stage.Read) o at all = by-read o at
+  at-hold (Some stage.Commit) o at all = by-commit o at all
+  at-hold (Some stage.Taken) o at all = none-taken (by_meaning state txn t o)
+  at-hold (Some stage.Replied) o at all = none-replied (by_meaning state txn t o)
 
   next-running : IsRunning t → next_of state txn t ≡ by_meaning state txn t (meaning t)
   unfolding next_of
   next-running running = ap (by_ending state txn t) (still-open t running.unended) ∙ ap (by_start state txn t) running.started
 
 pub stays-at-hold : StaysAtHold
-stays-at-hold hold state txn t at running holds =
+stays-at-hold hold state txn t at running holds asked =
     ap (due_of hold state txn) at
     ∙ ap (λ b. if_before hold b (next_of state txn t)) running.started
     ∙ ap (if_before hold true) (next-running state txn t running)
-    ∙ at-hold state txn t hold (meaning t) holds
+    ∙ at-hold state txn t hold (meaning t) holds (there hold asked)
+  where
+    there : (h : Option Stage) → HasAskedAt h state txn t → AskedThere state txn t h (meaning t)
+    there None all = tt
+    there (Some stage.Start) all = tt
+    there (Some stage.Read) all = tt
+    there (Some stage.Commit) all = all
+    there (Some stage.Taken) all = tt
+    there (Some stage.Replied) all = tt

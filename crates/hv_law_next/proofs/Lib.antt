@@ -1,4 +1,5 @@
 pub mod Meetings
+pub mod Askings
 pub mod Nexts
 pub mod Going
 pub mod Holding

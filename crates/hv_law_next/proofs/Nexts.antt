@@ -1,5 +1,5 @@
 -- Each entry of a transaction that is legal, and in order, is the one that one thread adds next for it; behind it fewer are left.
-use Rattle.std.proofs.Common.{◌≡◌, ℕ, ◌+◌, ◌<◌, ◌≤◌, ◌⊎◌, inl, inr, Option, Some, None, List, [], ◌∷◌, ◌++◌, length, map, refl, sym, ap, ◌∙◌, subst, arith}
+use Rattle.std.proofs.Common.{◌≡◌, ℕ, ◌+◌, ◌<◌, ◌≤◌, ◌⊎◌, inl, inr, Option, Some, None, List, [], ◌∷◌, ◌++◌, length, refl, sym, ap, ◌∙◌, subst, arith}
 use Rattle.std.specs.Prelude.{if◌then◌else◌, Bool, true, false, ◌||◌, IsTrue, IsFalse, IsSome, IsSomeAnd, is_some}
 use Rattle.std.specs.List.{list_any, AllByRecursion}
 use Rattle.std.proofs.lemmas.Bool.{le-ltb, lt-ltb}
@@ -9,9 +9,6 @@ use Rattle.hv_base.specs.declared.ids.TableId.{TableId}
 use Rattle.hv_base.specs.declared.ids.WriteId.{WriteId}
 use Rattle.hv_base.specs.declared.ids.Touch.{Touch}
 use Rattle.hv_locks.specs.declared.table.Lock.{Lock}
-use Rattle.hv_ast.specs.declared.statement.Stmt.{Stmt}
-use Rattle.hv_ast.specs.declared.statement.Stmt.TheVariants as stmt
-use Rattle.hv_typing.specs.Analysis.{is_form}
 use Rattle.hv_logic.specs.declared.catalog.TableInfo.{TableInfo}
 use Rattle.hv_logic.specs.declared.effect.Effect.{Effect}
 use Rattle.hv_logic.specs.declared.meaning.Meaning.{Meaning}
@@ -24,22 +21,24 @@ use Rattle.hv_history.specs.declared.entry.Cause.{Cause}
 use Rattle.hv_history.specs.declared.entry.Cause.TheVariants as cause
 use Rattle.hv_history.specs.declared.state.Ending.{Ending}
 use Rattle.hv_history.specs.declared.state.Ending.TheVariants.{Committed, Aborted, Made, Dropped}
-use Rattle.hv_history.specs.declared.state.Statement.{Statement}
 use Rattle.hv_history.specs.declared.state.Table.{Table}
 use Rattle.hv_history.specs.declared.state.Snapshot.{Snapshot}
 use Rattle.hv_history.specs.declared.state.Transaction.{Transaction}
-use Rattle.hv_history.specs.State.{State, numbered, meaning, opening_tree, statement_tree, statement_of, given_in, first_of, started, given_id, committed, ended, changed, while_open, acted, after, state_of}
-use Rattle.hv_history.specs.Legal.{Of, Fits, IsTruthful, is_started, locks_of, holds_against, first_holder, IsRunning, IsOwnTouch, StartFits, GivenFits, CommitFits, CreateFits, DropFits, CauseFits, FullFits, CauseIsTrue, TouchesAreMeant, IsMake, NeedsId, IsRefusedAs, ConflictIsTrue, IsFirstConflict, asks_to_abort, place_of_snapshot, HasRoom, load, profile}
-use Rattle.hv_stands.specs.Sound.{IsSound, IsSingle, info_in}
-use Rattle.hv_stands.specs.Running.{IsOf}
+use Rattle.hv_history.specs.Asking.{numbers_in, opened_before, asked_by}
+use Rattle.hv_history.specs.State.{State, numbered, meaning, opening_tree, given_in, first_of, meant_in, started, given_id, committed, ended, changed, while_open, acted, after, state_of}
+use Rattle.hv_history.specs.Legal.{Of, Fits, IsTruthful, is_started, locks_of, holds_against, first_holder, IsRunning, IsOwnTouch, StartFits, GivenFits, CommitFits, CreateFits, DropFits, CauseFits, FullFits, RequestFits, CauseIsTrue, TouchesAreMeant, HasAsked, CommitIsTrue, IsMake, NeedsId, IsRefusedAs, ConflictIsTrue, IsFirstConflict, asks_to_abort, place_of_snapshot, HasRoom, load, profile}
+use Rattle.hv_history.proofs.LastingLaws.{same-changed}
+use Rattle.hv_stands.specs.Sound.{IsSound}
+use Rattle.hv_stands.specs.Running.{IsOf, IsOwnCause}
 use Rattle.hv_stands.proofs.Numbers.{found, one_value, numbered-within}
-use Rattle.hv_stands.proofs.Soundness.{all-mapped, all-numbered}
+use Rattle.hv_stands.proofs.Soundness.{all-mapped}
 use Rattle.hv_stands.proofs.Keeping.{still-open, open-here}
 use Rattle.hv_stands.proofs.Fitting.{cause-open}
-use Rattle.hv_law_next.specs.Next.{start, abort, commit, lacks_room, starting, first_met, needs_id, next_write, giving, ending_change, changing, by_meaning, by_start, by_ending, next_of}
-use Rattle.hv_law_next.specs.Order.{IsOfTable, AsksForId, HasItsId, IsUnheld, IsFaultless, IsSteady, CauseInOrder, IsInOrder}
+use Rattle.hv_law_next.specs.Next.{start, abort, commit, lacks_room, starting, first_met, needs_id, next_write, giving, ending_change, changing, asking_or_end, by_meaning, by_start, by_ending, next_of}
+use Rattle.hv_law_next.specs.Order.{IsOfTable, AsksForId, HasItsId, IsUnheld, IsFaultless, IsSteady, AsksInOrder, CauseInOrder, IsInOrder}
 use Rattle.hv_law_next.specs.Carrying.{IsRunningStore}
 use Rattle.hv_law_next.proofs.Meetings.{none-met, first-is-met}
+use Rattle.hv_law_next.proofs.Askings.{tree-same, count_asked, count-within, count-fewer}
 
 -- ---- tests
 
@@ -97,47 +96,71 @@ wrote-given info effect [] [] are own =
     le-ltb 0 (length effect.inserts + length effect.deletes) (omega (arith, inserts, deletes))
 wrote-given info effect [] (touch ∷ wrote) are own = absurd (none-given touch.table.0 own.0)
 
--- ---- no statement that runs asks for the abort of others
-
-asks-nothing : (tree : Stmt) (txn : ℕ) → is_form tree ≡ true → asks_to_abort txn (Some tree) ≡ true → ⊥
-unfolding is_form
-asks-nothing (stmt.AbortTransactions txns) txn built asks = cc
-asks-nothing tree txn built asks = cc
-
-single-asks-nothing : (infos : List TableInfo) (asker : Transaction) (txn : ℕ) → IsSingle infos asker → asks_to_abort txn (opening_tree asker) ≡ true → ⊥
-single-asks-nothing infos asker txn single asks =
-    let tree : opening_tree asker ≡ Some single.text.0 =
-    ap (λ (xs : List Statement). statement_tree (statement_of (record asker { statements = xs }) 0)) single.one ∙ single.text.1.read in
-    asks-nothing single.text.0 txn single.text.1.built (sym (ap (asks_to_abort txn) tree) ∙ asks)
-
 -- ---- how many entries are left at most
 
-abbrev pub rank_by : Option Ending → Bool → Bool → ℕ
-rank_by (Some e) started_ needs = 0
-rank_by None false needs = 3
-rank_by None true true = 2
-rank_by None true false = 1
+-- so many numbers its text lists, and of so many it has to ask for the abort still
+abbrev pub listed : Transaction → ℕ
+listed t = length (numbers_in (opening_tree t))
 
-abbrev pub rank : Transaction → ℕ
-rank t = rank_by t.ending (is_started t) (needs_id t.given (meaning t))
+abbrev pub left_by : State → ℕ → Transaction → Option Meaning → ℕ
+left_by s txn t (Some Plain) = count_asked s.transactions txn (opened_before t.snapshot) (numbers_in (opening_tree t))
+left_by s txn t o = 0
 
-rank-open : (b c : Bool) → 1 ≤ rank_by None b c
-rank-open false c = omega arith
-rank-open true true = omega arith
-rank-open true false = omega arith
+abbrev pub rank_by : Option Ending → Bool → Bool → ℕ → ℕ → ℕ
+rank_by (Some e) started_ needs most left = 0
+rank_by None false needs most left = 3 + most
+rank_by None true true most left = 2
+rank_by None true false most left = 1 + left
 
-rank-started : (c : Bool) → rank_by None true c ≤ 2
-rank-started true = omega arith
-rank-started false = omega arith
+abbrev pub rank : State → ℕ → Transaction → ℕ
+rank s txn t = rank_by t.ending (is_started t) (needs_id t.given (meaning t)) (listed t) (left_by s txn t (meaning t))
 
-pub rank-within : (t : Transaction) → rank t ≤ 3
-rank-within t = by t.ending (is_started t) (needs_id t.given (meaning t))
+left-within : (s : State) (txn : ℕ) (t : Transaction) (o : Option Meaning) → left_by s txn t o ≤ listed t
+left-within s txn t None = omega arith
+left-within s txn t (Some (Refused why)) = omega arith
+left-within s txn t (Some (Listing names rows)) = omega arith
+left-within s txn t (Some (Change info effect)) = omega arith
+left-within s txn t (Some (Make shape)) = omega arith
+left-within s txn t (Some (Unmake table)) = omega arith
+left-within s txn t (Some Plain) = count-within s.transactions txn (opened_before t.snapshot) (numbers_in (opening_tree t))
+left-within s txn t (Some (Twice region row)) = omega arith
+left-within s txn t (Some RowLimit) = omega arith
+left-within s txn t (Some PartitionLimit) = omega arith
+
+-- what asks for a write id asks for no abort
+left-of-table : (s : State) (txn : ℕ) (t : Transaction) (table : TableId) (o : Option Meaning) → IsOfTable table o → left_by s txn t o ≡ 0
+left-of-table s txn t table None its = absurd its
+left-of-table s txn t table (Some (Refused why)) its = absurd its
+left-of-table s txn t table (Some (Listing names rows)) its = absurd its
+left-of-table s txn t table (Some (Change info effect)) its = refl
+left-of-table s txn t table (Some (Make shape)) its = absurd its
+left-of-table s txn t table (Some (Unmake other)) its = absurd its
+left-of-table s txn t table (Some Plain) its = absurd its
+left-of-table s txn t table (Some (Twice region row)) its = absurd its
+left-of-table s txn t table (Some RowLimit) its = absurd its
+left-of-table s txn t table (Some PartitionLimit) its = absurd its
+
+plain-needs : (given : List (ℕ × ℕ)) → needs_id given (Some Plain) ≡ false
+plain-needs [] = refl
+plain-needs (x ∷ given) = refl
+
+rank-open : (b c : Bool) (most left : ℕ) → 1 ≤ rank_by None b c most left
+rank-open false c most left = omega arith
+rank-open true true most left = omega arith
+rank-open true false most left = omega arith
+
+rank-started : (c : Bool) (most left : ℕ) → left ≤ most → rank_by None true c most left ≤ 2 + most
+rank-started true most left within = omega arith
+rank-started false most left within = omega (arith, within)
+
+pub rank-within : (s : State) (txn : ℕ) (t : Transaction) → rank s txn t ≤ 3 + listed t
+rank-within s txn t = by t.ending (is_started t) (needs_id t.given (meaning t)) (left_by s txn t (meaning t)) (left-within s txn t (meaning t))
   where
-    by : (o : Option Ending) (b c : Bool) → rank_by o b c ≤ 3
-    by (Some e) b c = omega arith
-    by None false c = omega arith
-    by None true true = omega arith
-    by None true false = omega arith
+    by : (o : Option Ending) (b c : Bool) (left : ℕ) → left ≤ listed t → rank_by o b c (listed t) left ≤ 3 + listed t
+    by (Some e) b c left within = omega arith
+    by None false c left within = omega arith
+    by None true true left within = omega arith
+    by None true false left within = omega (arith, within)
 
 no-more-ids : (given : List (ℕ × ℕ)) (x : ℕ × ℕ) (o : Option Meaning) → needs_id (given ++ x ∷ []) o ≡ false
 no-more-ids [] x o = refl
@@ -146,7 +169,7 @@ no-more-ids (y ∷ given) x o = refl
 is-started-behind : (s : State) (statement : ℕ) (t : Transaction) → is_started (started s statement t) ≡ true
 is-started-behind s statement t = by t.snapshot
   where
-    by : (o : Option Snapshot) → is_some (first_of o (record { place = s.entries; tables = s.tables })) ≡ true
+    by : (o : Option Snapshot) → is_some (first_of o (record { place = s.entries; tables = s.tables; opened = length s.transactions })) ≡ true
     by None = refl
     by (Some snapshot) = refl
 
@@ -154,7 +177,7 @@ is-started-behind s statement t = by t.snapshot
 pub record HasFewer (txn most : ℕ) (now : State) : Type 0 where
   pub t : Transaction
   pub there : numbered now.transactions txn ≡ Some t
-  pub fewer : rank t < most
+  pub fewer : rank now txn t < most
 
 module _ (book : List Entry) (txn : ℕ) (t : Transaction) (at : numbered (state_of book).transactions txn ≡ Some t) where
   abbrev s : State
@@ -210,8 +233,8 @@ module _ (book : List Entry) (txn : ℕ) (t : Transaction) (at : numbered (state
       by (Some RowLimit) is needs its = absurd (subst (IsOfTable table) is its)
       by (Some PartitionLimit) is needs its = absurd (subst (IsOfTable table) is its)
 
-  commit-next : (wrote : List Touch) → CommitFits s wrote t → TouchesAreMeant wrote (meaning t) → next_of s txn t ≡ Some (commit txn wrote)
-  commit-next wrote fits truth = by (meaning t) refl truth
+  commit-next : (wrote : List Touch) → CommitFits s wrote t → CommitIsTrue s txn wrote t → next_of s txn t ≡ Some (commit txn wrote)
+  commit-next wrote fits true_of = by (meaning t) refl true_of.touches
     where
       by : (o : Option Meaning) → meaning t ≡ o → TouchesAreMeant wrote (meaning t) → next_of s txn t ≡ Some (commit txn wrote)
       by (Some (Change info effect)) is truth =
@@ -228,7 +251,9 @@ module _ (book : List Entry) (txn : ℕ) (t : Transaction) (at : numbered (state
           means (commit txn wrote) fits.running (Some (Listing names rows)) is (ap (λ ws. Some (commit txn ws)) (sym none))
       by (Some Plain) is truth =
           let none : wrote ≡ [] = subst (TouchesAreMeant wrote) is truth in
-          means (commit txn wrote) fits.running (Some Plain) is (ap (λ ws. Some (commit txn ws)) (sym none))
+          let all : asked_by s txn t ≡ None = subst (HasAsked s txn t) is true_of.asked in
+          means (commit txn wrote) fits.running (Some Plain) is
+          (ap (λ o. Some (asking_or_end txn o)) all ∙ ap (λ ws. Some (commit txn ws)) (sym none))
       by None is truth = absurd (subst (TouchesAreMeant wrote) is truth)
       by (Some (Refused why)) is truth = absurd (subst (TouchesAreMeant wrote) is truth)
       by (Some (Make shape)) is truth = absurd (subst (TouchesAreMeant wrote) is truth)
@@ -329,98 +354,140 @@ module _ (book : List Entry) (txn : ℕ) (t : Transaction) (at : numbered (state
       by (Some RowLimit) is asks = absurd (other-needs t.given (Some RowLimit) (subst (NeedsId t.given) is needs) tt)
       by (Some PartitionLimit) is asks = absurd (other-needs t.given (Some PartitionLimit) (subst (NeedsId t.given) is needs) tt)
 
-  abort-next : (why : Cause) → IsSound s → IsRunningStore s → CauseFits profile s txn why t → CauseIsTrue s why t → IsFaultless why → CauseInOrder s why t → next_of s txn t ≡ Some (abort txn why)
-  abort-next (cause.Refused number) sound running fits truth steady order = refused-next number fits truth
-  abort-next (cause.Conflict other table partition) sound running fits truth steady order = conflict-next other table partition fits.running truth order
-  abort-next (cause.Request other) sound running fits truth steady order =
-      let f = found (λ asker. IsRunning asker × IsTrue (asks_to_abort txn (opening_tree asker))) (numbered s.transactions other.0) fits.asks in
-      absurd (single-asks-nothing (map info_in s.tables) f.0 txn
-      (all-numbered (IsSingle (map info_in s.tables)) s.transactions other.0 f.0 f.1 sound.single) f.2.1)
-  abort-next cause.Full sound running fits truth steady order = by (is_started t) refl truth
+  request-next : (other : TxnId) → IsRunning t → AsksInOrder s other.0 txn t
+      → next_of s txn t ≡ Some (entry.Abort other (cause.Request (record { 0 = txn })))
+  request-next other running asks =
+      means (entry.Abort other (cause.Request (record { 0 = txn }))) running (Some Plain) asks.plain
+      (ap (λ o. Some (asking_or_end txn o)) asks.first)
+
+  abort-next : (why : Cause) → IsOwnCause why → IsRunningStore s → CauseFits profile s txn why t → CauseIsTrue s why t → IsFaultless why
+      → CauseInOrder s txn why t → next_of s txn t ≡ Some (abort txn why)
+  abort-next (cause.Refused number) own running fits truth steady order = refused-next number fits truth
+  abort-next (cause.Conflict other table partition) own running fits truth steady order = conflict-next other table partition fits.running truth order
+  abort-next (cause.Request other) own running fits truth steady order = absurd own
+  abort-next cause.Full own running fits truth steady order = by (is_started t) refl truth
     where
       by : (b : Bool) → is_started t ≡ b → IsFalse (is_started t) ⊎ NeedsId t.given (meaning t) → next_of s txn t ≡ Some (abort txn cause.Full)
       by false is either = full-unstarted fits order is
       by true is (inl unstarted) = absurd (never (is_started t) unstarted is)
       by true is (inr needs) = full-asked fits needs is
-  abort-next (cause.Twice partition row) sound running fits truth steady order =
+  abort-next (cause.Twice partition row) own running fits truth steady order =
       means (abort txn (cause.Twice partition row)) fits (Some (Twice partition row)) truth refl
-  abort-next (cause.Blocked holder) sound running fits truth steady order =
+  abort-next (cause.Blocked holder) own running fits truth steady order =
       opens (still-open t fits.waiting.unended) false fits.waiting.unstarted
       ∙ ap (λ o. Some (starting s txn o)) fits.held
-  abort-next (cause.ReadFault count) sound running fits truth steady order = absurd steady
-  abort-next (cause.WriteFault count) sound running fits truth steady order = absurd steady
-  abort-next (cause.Damaged place) sound running fits truth steady order = absurd steady
-  abort-next cause.RowLimit sound running fits truth steady order = means (abort txn cause.RowLimit) fits (Some RowLimit) truth refl
-  abort-next cause.PartitionLimit sound running fits truth steady order = means (abort txn cause.PartitionLimit) fits (Some PartitionLimit) truth refl
-  abort-next cause.Memory sound running fits truth steady order = absurd steady
-  abort-next cause.Lost sound running fits truth steady order = absurd (never s.openings.only_lost running fits.behind)
-  abort-next cause.Rollback sound running fits truth steady order = absurd fits
+  abort-next (cause.ReadFault count) own running fits truth steady order = absurd steady
+  abort-next (cause.WriteFault count) own running fits truth steady order = absurd steady
+  abort-next (cause.Damaged place) own running fits truth steady order = absurd steady
+  abort-next cause.RowLimit own running fits truth steady order = means (abort txn cause.RowLimit) fits (Some RowLimit) truth refl
+  abort-next cause.PartitionLimit own running fits truth steady order = means (abort txn cause.PartitionLimit) fits (Some PartitionLimit) truth refl
+  abort-next cause.Memory own running fits truth steady order = absurd steady
+  abort-next cause.Lost own running fits truth steady order = absurd (never s.openings.only_lost running fits.behind)
+  abort-next cause.Rollback own running fits truth steady order = absurd fits
 
   -- ---- how many are left
 
   fewer-by : (f : Transaction → Transaction) (now : State) → now.transactions ≡ changed (while_open f) s.transactions txn → t.ending ≡ None
-      → rank (f t) < rank t → HasFewer txn (rank t) now
+      → rank now txn (f t) < rank s txn t → HasFewer txn (rank s txn t) now
   fewer-by f now are none less = record {
     t = f t;
     there = ap (λ ts. numbered ts txn) are ∙ open-here f s.transactions txn t at none;
     fewer = less;
   }
 
+  unended-rank : (now : State) (u : Transaction) → u.ending ≡ None
+      → rank now txn u ≡ rank_by None (is_started u) (needs_id u.given (meaning u)) (listed u) (left_by now txn u (meaning u))
+  unended-rank now u none =
+      ap (λ o. rank_by o (is_started u) (needs_id u.given (meaning u)) (listed u) (left_by now txn u (meaning u))) none
+
   ends-fewer : (f : Transaction → Transaction) (ending_ : Ending) (now : State) → now.transactions ≡ changed (while_open f) s.transactions txn → t.ending ≡ None
-      → (f t).ending ≡ Some ending_ → HasFewer txn (rank t) now
+      → (f t).ending ≡ Some ending_ → HasFewer txn (rank s txn t) now
   ends-fewer f ending_ now are none ends =
-      let before : rank t ≡ rank_by None (is_started t) (needs_id t.given (meaning t)) =
-      ap (λ o. rank_by o (is_started t) (needs_id t.given (meaning t))) none in
-      let one = rank-open (is_started t) (needs_id t.given (meaning t)) in
-      let behind : rank (f t) ≡ 0 = ap (λ o. rank_by o (is_started (f t)) (needs_id (f t).given (meaning (f t)))) ends in
+      let before = unended-rank s t none in
+      let one = rank-open (is_started t) (needs_id t.given (meaning t)) (listed t) (left_by s txn t (meaning t)) in
+      let behind : rank now txn (f t) ≡ 0 =
+      ap (λ o. rank_by o (is_started (f t)) (needs_id (f t).given (meaning (f t))) (listed (f t)) (left_by now txn (f t) (meaning (f t)))) ends in
       fewer-by f now are none (omega (arith, before, one, behind))
 
-  start-fewer : (statement : ℕ) → StartFits profile s statement t → HasFewer txn (rank t) (after s (entry.Start (record { 0 = txn }) statement))
+  start-fewer : (statement : ℕ) → StartFits profile s statement t → HasFewer txn (rank s txn t) (after s (entry.Start (record { 0 = txn }) statement))
   unfolding acted
   start-fewer statement fits =
       let none = still-open t fits.waiting.unended in
+      let now : State = after s (entry.Start (record { 0 = txn }) statement) in
       let next : Transaction = started s statement t in
-      let before : rank t ≡ 3 =
-      ap (λ o. rank_by o (is_started t) (needs_id t.given (meaning t))) none
-      ∙ ap (λ b. rank_by None b (needs_id t.given (meaning t))) fits.waiting.unstarted in
-      let behind : rank next ≡ rank_by None true (needs_id next.given (meaning next)) =
-      ap (λ o. rank_by o (is_started next) (needs_id next.given (meaning next))) none
-      ∙ ap (λ b. rank_by None b (needs_id next.given (meaning next))) (is-started-behind s statement t) in
-      let two = rank-started (needs_id next.given (meaning next)) in
-      fewer-by (started s statement) (after s (entry.Start (record { 0 = txn }) statement)) refl none (omega (arith, before, behind, two))
+      let left : ℕ = left_by now txn next (meaning next) in
+      let before : rank s txn t ≡ 3 + listed t =
+      unended-rank s t none
+      ∙ ap (λ b. rank_by None b (needs_id t.given (meaning t)) (listed t) (left_by s txn t (meaning t))) fits.waiting.unstarted in
+      let behind : rank now txn next ≡ rank_by None true (needs_id next.given (meaning next)) (listed next) left =
+      unended-rank now next none
+      ∙ ap (λ b. rank_by None b (needs_id next.given (meaning next)) (listed next) left) (is-started-behind s statement t) in
+      let two = rank-started (needs_id next.given (meaning next)) (listed next) left (left-within now txn next (meaning next)) in
+      let same : listed next ≡ listed t =
+      ap (λ o. length (numbers_in o)) (tree-same (meant_in s) (λ x. refl) t.statements statement 0) in
+      fewer-by (started s statement) now refl none (omega (arith, before, behind, two, same))
 
   given-fewer : (table : TableId) (write : WriteId) → GivenFits profile s table.0 write.0 t → AsksForId table t
-      → HasFewer txn (rank t) (after s (entry.Given (record { 0 = txn }) table write))
+      → HasFewer txn (rank s txn t) (after s (entry.Given (record { 0 = txn }) table write))
   unfolding acted
   given-fewer table write fits asks =
       let none = still-open t fits.running.unended in
+      let now : State = after s (entry.Given (record { 0 = txn }) table write) in
       let next : Transaction = given_id table.0 write.0 t in
-      let before : rank t ≡ 2 =
-      ap (λ o. rank_by o (is_started t) (needs_id t.given (meaning t))) none
-      ∙ ap (λ b. rank_by None b (needs_id t.given (meaning t))) fits.running.started
-      ∙ ap (rank_by None true) asks.needs in
-      let behind : rank next ≡ 1 =
-      ap (λ o. rank_by o (is_started t) (needs_id next.given (meaning t))) none
-      ∙ ap (λ b. rank_by None b (needs_id next.given (meaning t))) fits.running.started
-      ∙ ap (rank_by None true) (no-more-ids t.given (table.0, write.0) (meaning t)) in
-      fewer-by (given_id table.0 write.0) (after s (entry.Given (record { 0 = txn }) table write)) refl none (omega (arith, before, behind))
+      let before : rank s txn t ≡ 2 =
+      unended-rank s t none
+      ∙ ap (λ b. rank_by None b (needs_id t.given (meaning t)) (listed t) (left_by s txn t (meaning t))) fits.running.started
+      ∙ ap (λ b. rank_by None true b (listed t) (left_by s txn t (meaning t))) asks.needs in
+      let behind : rank now txn next ≡ 1 =
+      unended-rank now next none
+      ∙ ap (λ b. rank_by None b (needs_id next.given (meaning t)) (listed next) (left_by now txn next (meaning t))) fits.running.started
+      ∙ ap (λ b. rank_by None true b (listed next) (left_by now txn next (meaning t))) (no-more-ids t.given (table.0, write.0) (meaning t))
+      ∙ ap (λ n. 1 + n) (left-of-table now txn next table (meaning t) asks.of_table) in
+      fewer-by (given_id table.0 write.0) now refl none (omega (arith, before, behind))
 
-  commit-fewer : (wrote : List Touch) → CommitFits s wrote t → HasFewer txn (rank t) (after s (entry.Commit (record { 0 = txn }) wrote))
+  -- an abort that it asks for leaves its own record, and one number fewer
+  request-fewer : (other : TxnId) → IsRunning t → (other.0 ≡ txn → ⊥) → AsksInOrder s other.0 txn t
+      → HasFewer txn (rank s txn t) (after s (entry.Abort other (cause.Request (record { 0 = txn }))))
+  unfolding acted
+  request-fewer other running apart asks =
+      let none = still-open t running.unended in
+      let ending_ : Ending = Aborted s.entries (cause.Request (record { 0 = txn })) in
+      let now : State = after s (entry.Abort other (cause.Request (record { 0 = txn }))) in
+      let needs : needs_id t.given (meaning t) ≡ false = ap (needs_id t.given) asks.plain ∙ plain-needs t.given in
+      let of_it : (x : State) → rank x txn t ≡ 1 + left_by x txn t (Some Plain) = λ x.
+      unended-rank x t none
+      ∙ ap (λ b. rank_by None b (needs_id t.given (meaning t)) (listed t) (left_by x txn t (meaning t))) running.started
+      ∙ ap (λ b. rank_by None true b (listed t) (left_by x txn t (meaning t))) needs
+      ∙ ap (λ o. 1 + left_by x txn t o) asks.plain in
+      let before : rank s txn t ≡ 1 + count_asked s.transactions txn (opened_before t.snapshot) (numbers_in (opening_tree t)) = of_it s in
+      let behind : rank now txn t
+      ≡ 1 + count_asked (changed (while_open (ended ending_)) s.transactions other.0) txn (opened_before t.snapshot) (numbers_in (opening_tree t)) =
+      of_it now in
+      let fewer : count_asked (changed (while_open (ended ending_)) s.transactions other.0) txn (opened_before t.snapshot) (numbers_in (opening_tree t))
+      < count_asked s.transactions txn (opened_before t.snapshot) (numbers_in (opening_tree t)) =
+      count-fewer ending_ s.transactions txn (opened_before t.snapshot) other.0 (numbers_in (opening_tree t)) asks.first in
+      record {
+        t = t;
+        there = same-changed (while_open (ended ending_)) s.transactions other.0 txn apart ∙ at;
+        fewer = omega (arith, before, behind, fewer);
+      }
+
+  commit-fewer : (wrote : List Touch) → CommitFits s wrote t → HasFewer txn (rank s txn t) (after s (entry.Commit (record { 0 = txn }) wrote))
   unfolding acted
   commit-fewer wrote fits =
       ends-fewer (committed s.entries wrote) (Committed s.entries wrote) (after s (entry.Commit (record { 0 = txn }) wrote)) refl (still-open t fits.running.unended) refl
 
-  create-fewer : (table : TableId) → CreateFits s table.0 t → HasFewer txn (rank t) (after s (entry.Create (record { 0 = txn }) table))
+  create-fewer : (table : TableId) → CreateFits s table.0 t → HasFewer txn (rank s txn t) (after s (entry.Create (record { 0 = txn }) table))
   unfolding acted
   create-fewer table fits =
       ends-fewer (ended (Made s.entries table.0)) (Made s.entries table.0) (after s (entry.Create (record { 0 = txn }) table)) refl (still-open t fits.running.unended) refl
 
-  drop-fewer : (table : TableId) → DropFits s table.0 t → HasFewer txn (rank t) (after s (entry.Drop (record { 0 = txn }) table))
+  drop-fewer : (table : TableId) → DropFits s table.0 t → HasFewer txn (rank s txn t) (after s (entry.Drop (record { 0 = txn }) table))
   unfolding acted
   drop-fewer table fits =
       ends-fewer (ended (Dropped s.entries table.0)) (Dropped s.entries table.0) (after s (entry.Drop (record { 0 = txn }) table)) refl (still-open t fits.running.unended) refl
 
-  abort-fewer : (why : Cause) → CauseFits profile s txn why t → HasFewer txn (rank t) (after s (entry.Abort (record { 0 = txn }) why))
+  abort-fewer : (why : Cause) → CauseFits profile s txn why t → HasFewer txn (rank s txn t) (after s (entry.Abort (record { 0 = txn }) why))
   unfolding acted
   abort-fewer why fits =
       ends-fewer (ended (Aborted s.entries why)) (Aborted s.entries why) (after s (entry.Abort (record { 0 = txn }) why)) refl
@@ -429,7 +496,7 @@ module _ (book : List Entry) (txn : ℕ) (t : Transaction) (at : numbered (state
 -- an entry that one thread adds next for that transaction
 pub record IsNext (book : List Entry) (txn : ℕ) (t : Transaction) (event : Entry) : Type 0 where
   pub next : next_of (state_of book) txn t ≡ Some event
-  pub later : HasFewer txn (rank t) (after (state_of book) event)
+  pub later : HasFewer txn (rank (state_of book) txn t) (after (state_of book) event)
 
 pub record IsGood (txn : ℕ) (s : State) (event : Entry) : Type 0 where
   pub of_it : IsOf txn event
@@ -454,7 +521,8 @@ next-is book txn t (entry.Given id table write) at sound running good =
 next-is book txn t (entry.Commit id wrote) at sound running good =
     let same : id.0 ≡ txn = one_value id.0 txn good.of_it in
     let fits = here book txn t at (CommitFits (state_of book) wrote) id same good.fits in
-    let truth = here book txn t at (λ x. TouchesAreMeant wrote (meaning x)) id same good.truth in
+    let truth0 = here book txn t at (CommitIsTrue (state_of book) id.0 wrote) id same good.truth in
+    let truth : CommitIsTrue (state_of book) txn wrote t = subst (λ n. CommitIsTrue (state_of book) n wrote t) same truth0 in
     subst (λ n. IsNext book txn t (entry.Commit (record { 0 = n }) wrote)) (sym same)
     (record { next = commit-next book txn t at wrote fits truth; later = commit-fewer book txn t at wrote fits })
 next-is book txn t (entry.Create id table) at sound running good =
@@ -469,14 +537,25 @@ next-is book txn t (entry.Drop id table) at sound running good =
     let truth = here book txn t at (λ x. meaning x ≡ Some (Unmake table)) id same good.truth in
     subst (λ n. IsNext book txn t (entry.Drop (record { 0 = n }) table)) (sym same)
     (record { next = drop-next book txn t at table fits truth; later = drop-fewer book txn t at table fits })
+next-is book txn t (entry.Abort id (cause.Request by_)) at sound running good =
+    let same : by_.0 ≡ txn = one_value by_.0 txn good.of_it in
+    let fits = found (RequestFits (state_of book) id.0 by_.0) (numbered (state_of book).transactions id.0) good.fits in
+    let asker = here book txn t at (λ x. IsRunning x × IsTrue (asks_to_abort id.0 (opening_tree x))) by_ same fits.2.asks in
+    let order = found (CauseInOrder (state_of book) id.0 (cause.Request by_)) (numbered (state_of book).transactions id.0) good.in_order in
+    let asks0 = here book txn t at (AsksInOrder (state_of book) id.0 by_.0) by_ same order.2 in
+    let asks : AsksInOrder (state_of book) id.0 txn t = subst (λ n. AsksInOrder (state_of book) id.0 n t) same asks0 in
+    let apart : id.0 ≡ txn → ⊥ = λ e. fits.2.other (same ∙ sym e) in
+    subst (λ n. IsNext book txn t (entry.Abort id (cause.Request (record { 0 = n })))) (sym same)
+    (record { next = request-next book txn t at id asker.0 asks; later = request-fewer book txn t at id asker.0 apart asks })
 next-is book txn t (entry.Abort id why) at sound running good =
     let same : id.0 ≡ txn = one_value id.0 txn good.of_it in
     let fits0 = here book txn t at (CauseFits profile (state_of book) id.0 why) id same good.fits in
     let fits : CauseFits profile (state_of book) txn why t = subst (λ n. CauseFits profile (state_of book) n why t) same fits0 in
     let truth = here book txn t at (CauseIsTrue (state_of book) why) id same good.truth in
-    let order = here book txn t at (CauseInOrder (state_of book) why) id same good.in_order in
+    let order0 = here book txn t at (CauseInOrder (state_of book) id.0 why) id same good.in_order in
+    let order : CauseInOrder (state_of book) txn why t = subst (λ n. CauseInOrder (state_of book) n why t) same order0 in
     subst (λ n. IsNext book txn t (entry.Abort (record { 0 = n }) why)) (sym same)
-    (record { next = abort-next book txn t at why sound running fits truth good.steady order; later = abort-fewer book txn t at why fits })
+    (record { next = abort-next book txn t at why tt running fits truth good.steady order; later = abort-fewer book txn t at why fits })
 next-is book txn t (entry.Opened id session number text) at sound running good =
     let same : id.0 ≡ txn = one_value id.0 txn good.of_it in
     let next = good.fits.next in

@@ -7,7 +7,7 @@ use Rattle.hv_logic.specs.declared.meaning.Meaning.TheVariants.{Refused, Change,
 use Rattle.hv_history.specs.declared.entry.Entry.{Entry}
 use Rattle.hv_history.specs.declared.state.Transaction.{Transaction}
 use Rattle.hv_history.specs.State.{State, numbered, meaning, state_of}
-use Rattle.hv_history.specs.Legal.{IsLegal, IsRunning, is_started, profile}
+use Rattle.hv_history.specs.Legal.{IsLegal, IsRunning, HasAsked, is_started, profile}
 use Rattle.hv_stands.specs.Running.{AreOf}
 use Rattle.hv_law_next.specs.Next.{needs_id, comes_before, due, carried_on}
 use Rattle.hv_law_next.specs.Order.{AreSteady, AllInOrder}
@@ -63,7 +63,12 @@ IsAtHold (Some stage.Read) given meaning = IsUnrefused meaning
 IsAtHold (Some stage.Commit) given meaning = IsToCommit given meaning
 IsAtHold (Some other) given meaning = Unit {0}
 
+-- and where its commit is held it has asked for all aborts that its text lists
+abbrev pub HasAskedAt : Option Stage → State → ℕ → Transaction → Type 0
+HasAskedAt (Some stage.Commit) state txn transaction = HasAsked state txn transaction (meaning transaction)
+HasAskedAt hold state txn transaction = Unit {0}
+
 abbrev pub StaysAtHold : Type 0
 StaysAtHold =
     (hold : Option Stage) (state : State) (txn : ℕ) (transaction : Transaction) → numbered state.transactions txn ≡ Some transaction
-    → IsRunning transaction → IsAtHold hold transaction.given (meaning transaction) → due hold state txn ≡ None
+    → IsRunning transaction → IsAtHold hold transaction.given (meaning transaction) → HasAskedAt hold state txn transaction → due hold state txn ≡ None

@@ -19,6 +19,7 @@ use Rattle.hv_history.specs.declared.state.Ending.{Ending}
 use Rattle.hv_history.specs.declared.state.Ending.TheVariants.{Committed}
 use Rattle.hv_history.specs.declared.state.Table.{Table}
 use Rattle.hv_history.specs.declared.state.Transaction.{Transaction}
+use Rattle.hv_history.specs.Asking.{listed_in, asked_by}
 use Rattle.hv_history.specs.State.{State, numbered, meaning, state_of}
 use Rattle.hv_history.specs.Legal.{is_started, locks_of, first_holder, first_shared, place_of_snapshot, load, profile}
 
@@ -95,13 +96,18 @@ changing state txn transaction info effect true = if lacks_room state 1 then abo
 changing state txn transaction info effect false =
     ending_change txn (touches_of info effect) (first_met (place_of_snapshot transaction.snapshot) (touches_of info effect) 1 state.transactions)
 
+-- the end of what comes to nothing: it commits once it has asked for each abort that its text lists, one after another
+abbrev pub asking_or_end : ℕ → Option ℕ → Entry
+asking_or_end txn None = commit txn []
+asking_or_end txn (Some other) = abort other (cause.Request (record { 0 = txn }))
+
 abbrev pub by_meaning : State → ℕ → Transaction → Option Meaning → Option Entry
 by_meaning state txn transaction (Some (Refused why)) = Some (abort txn (cause.Refused (refusals.number why)))
 by_meaning state txn transaction (Some (Twice region row)) = Some (abort txn (cause.Twice region row))
 by_meaning state txn transaction (Some RowLimit) = Some (abort txn cause.RowLimit)
 by_meaning state txn transaction (Some PartitionLimit) = Some (abort txn cause.PartitionLimit)
 by_meaning state txn transaction (Some (Listing names rows)) = Some (commit txn [])
-by_meaning state txn transaction (Some Plain) = Some (commit txn [])
+by_meaning state txn transaction (Some Plain) = Some (asking_or_end txn (asked_by state txn transaction))
 by_meaning state txn transaction (Some (Make shape)) = Some (entry.Create (record { 0 = txn }) (record { 0 = length state.tables + 1 }))
 by_meaning state txn transaction (Some (Unmake table)) = Some (entry.Drop (record { 0 = txn }) table)
 by_meaning state txn transaction (Some (Change info effect)) =
@@ -155,7 +161,7 @@ due_of hold state txn (Some transaction) = if_before hold (is_started transactio
 abbrev pub due : Option Stage → State → ℕ → Option Entry
 due hold state txn = due_of hold state txn (numbered state.transactions txn)
 
--- ---- one entry after another: a statement has at most three behind its opening
+-- ---- one entry after another: a statement has at most three behind its opening, and one for each number that it lists
 
 abbrev pub with_one : List Entry → Option Entry → List Entry
 with_one book None = book
@@ -166,4 +172,4 @@ steps zero hold txn book = book
 steps (suc n) hold txn book = steps n hold txn (with_one book (due hold (state_of book) txn))
 
 unfoldable pub carried_on : Option Stage → ℕ → List Entry → List Entry
-carried_on hold txn book = steps 3 hold txn book
+carried_on hold txn book = steps (3 + listed_in (numbered (state_of book).transactions txn)) hold txn book

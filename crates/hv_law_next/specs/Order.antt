@@ -1,14 +1,15 @@
 -- What of a statement's way no legal book fixes: that no device fails and memory is found, and in which order its entries come.
-use Rattle.std.specs.Prelude.{◌≡◌, true, false, Option, Some, None, List, [], ◌∷◌}
+use Rattle.std.specs.Prelude.{◌≡◌, ℕ, true, false, Option, Some, None, List, [], ◌∷◌}
 use Rattle.std.specs.List.{AllByRecursion}
 use Rattle.hv_base.specs.declared.ids.TableId.{TableId}
 use Rattle.hv_logic.specs.declared.meaning.Meaning.{Meaning}
-use Rattle.hv_logic.specs.declared.meaning.Meaning.TheVariants.{Change}
+use Rattle.hv_logic.specs.declared.meaning.Meaning.TheVariants.{Change, Plain}
 use Rattle.hv_history.specs.declared.entry.Entry.{Entry}
 use Rattle.hv_history.specs.declared.entry.Entry.TheVariants as entry
 use Rattle.hv_history.specs.declared.entry.Cause.{Cause}
 use Rattle.hv_history.specs.declared.entry.Cause.TheVariants as cause
 use Rattle.hv_history.specs.declared.state.Transaction.{Transaction}
+use Rattle.hv_history.specs.Asking.{asked_by}
 use Rattle.hv_history.specs.State.{State, meaning, after}
 use Rattle.hv_history.specs.Legal.{Of, is_started, locks_of, first_holder}
 use Rattle.hv_law_next.specs.Next.{needs_id}
@@ -50,14 +51,20 @@ HasItsId transaction = needs_id transaction.given (meaning transaction) ≡ fals
 abbrev pub IsUnheld : State → Transaction → Type 0
 IsUnheld state transaction = is_started transaction ≡ false → first_holder (locks_of transaction) 1 state.transactions ≡ None
 
-abbrev pub CauseInOrder : State → Cause → Transaction → Type 0
-CauseInOrder state (cause.Conflict by_ table partition) transaction = HasItsId transaction
-CauseInOrder state cause.Full transaction = IsUnheld state transaction
-CauseInOrder state why transaction = Unit {0}
+-- an abort is asked for by a statement that comes to nothing else, and is the first that it has left to ask for
+pub record AsksInOrder (state : State) (txn own : ℕ) (asker : Transaction) : Type 0 where
+  pub plain : meaning asker ≡ Some Plain
+  pub first : asked_by state own asker ≡ Some txn
+
+abbrev pub CauseInOrder : State → ℕ → Cause → Transaction → Type 0
+CauseInOrder state txn (cause.Conflict by_ table partition) transaction = HasItsId transaction
+CauseInOrder state txn (cause.Request by_) transaction = Of state by_.0 (AsksInOrder state txn by_.0)
+CauseInOrder state txn cause.Full transaction = IsUnheld state transaction
+CauseInOrder state txn why transaction = Unit {0}
 
 abbrev pub IsInOrder : State → Entry → Type 0
 IsInOrder state (entry.Given txn table write) = Of state txn.0 (AsksForId table)
-IsInOrder state (entry.Abort txn why) = Of state txn.0 (CauseInOrder state why)
+IsInOrder state (entry.Abort txn why) = Of state txn.0 (CauseInOrder state txn.0 why)
 IsInOrder state event = Unit {0}
 
 abbrev pub AllInOrder : State → List Entry → Type 0

@@ -29,7 +29,7 @@ abbrev pub first_by_hand : Transaction
 first_by_hand = record {
   session = codes "a";
   statements = [];
-  snapshot = Some (record { place = 4; tables = [] });
+  snapshot = Some (record { place = 4; tables = []; opened = 1 });
   given = (1, 2) ∷ [];
   ending = Some (Committed 9 (touch_by_hand ∷ []));
 }
@@ -39,7 +39,7 @@ abbrev pub second_by_hand : ℕ → List (ℕ × ℕ) → Option Meaning → Tra
 second_by_hand place given meaning = record {
   session = codes "b";
   statements = record { number = 2; text = []; meaning = meaning; wrote = [] } ∷ [];
-  snapshot = Some (record { place = place; tables = [] });
+  snapshot = Some (record { place = place; tables = []; opened = 2 });
   given = given;
   ending = None;
 }

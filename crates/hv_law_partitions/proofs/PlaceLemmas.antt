@@ -44,7 +44,7 @@ taken-longer book event (Some snapshot) h =
 
 -- one that is taken now
 taken-now : (book : List Entry) (event : Entry) (o : Option Snapshot) → TakenBy (book ++ event ∷ []) o
-    → TakenBy (book ++ event ∷ []) (first_of o (record { place = (state_of book).entries; tables = (state_of book).tables }))
+    → TakenBy (book ++ event ∷ []) (first_of o (record { place = (state_of book).entries; tables = (state_of book).tables; opened = length (state_of book).transactions }))
 unfolding TakenBy
 taken-now book event (Some snapshot) h = h
 taken-now book event None h = record {

@@ -151,7 +151,7 @@ none-some (Some x) h = cc
 
 start-knows : (s : State) (t : Transaction) → IsSoundBase s → IsSingle (map info_in s.tables) t → t.snapshot ≡ None → Knows s.tables t → Knows s.tables (started s 0 t)
 start-knows s t sound single none h =
-    let snapshot : Snapshot = record { place = s.entries; tables = s.tables } in
+    let snapshot : Snapshot = record { place = s.entries; tables = s.tables; opened = length s.transactions } in
     subst (λ o. KnowsBy s.tables (first_of o snapshot) t.given (meaning (started s 0 t))) (sym none)
     (start-since s t sound single (subst (λ o. KnowsBy s.tables o t.given (meaning t)) none h))
 

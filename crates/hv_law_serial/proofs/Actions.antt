@@ -1,6 +1,5 @@
--- What actions leave of the transactions that are there: the book grows, those that don't wait stay as they are, and those that wait are
--- there, each once.
-use Rattle.std.proofs.Common.{◌≡◌, ℕ, inl, inr, Option, Some, None, List, [], ◌∷◌, ◌++◌, fold, refl, sym, ap, ◌∙◌, subst, append-nil, append_assoc, arith}
+-- What actions leave of the transactions that are there: the book grows, and those that wait are there.
+use Rattle.std.proofs.Common.{◌≡◌, ℕ, inl, inr, Option, Some, None, List, [], ◌∷◌, ◌++◌, fold, refl, sym, ap, ◌∙◌, subst, append-nil, append_assoc}
 use Rattle.std.specs.Prelude.{Bool, true, false, if◌then◌else◌}
 use Rattle.std.specs.List.{AllByRecursion}
 use Rattle.std.proofs.lemmas.List.Sums.{fold-append}
@@ -13,28 +12,19 @@ use Rattle.hv_history.specs.declared.state.Transaction.{Transaction}
 use Rattle.hv_history.specs.State.{State, nothing_yet, numbered, opened, after, state_of}
 use Rattle.hv_history.specs.Lasting.{Later}
 use Rattle.hv_history.proofs.LastingLaws.{goes-on-all}
-use Rattle.hv_stands.specs.Running.{Asking, next_number, opening, IsOf, AreOf, AreNotOf}
-use Rattle.hv_stands.proofs.Numbers.{found, one_value, numbered-within}
+use Rattle.hv_stands.specs.Running.{Asking, next_number, opening, IsOf, AreOf}
+use Rattle.hv_stands.proofs.Numbers.{found, one_value}
 use Rattle.hv_stands.proofs.Soundness.{all-mapped, all-more}
 use Rattle.hv_stands.proofs.Behind.{one-behind, opened-there, numbered-behind}
-use Rattle.hv_stands.proofs.Others.{others-leave}
 use Rattle.hv_law_next.specs.Carrying.{IsRunningStore}
 use Rattle.hv_law_next.proofs.Going.{runs-on}
+use Rattle.hv_program.specs.Change.{from_to}
+use Rattle.hv_program.specs.hv_session.specs.hv_steps.specs.Ending.{IsAskBy, AddsNoneOrId}
+use Rattle.hv_program.specs.hv_session.specs.hv_steps.proofs.Books.{all-append}
 use Rattle.hv_program.specs.hv_session.specs.Taking.{HoldsAt}
 use Rattle.hv_program.specs.Doing.{Waiting, Standing, waiting_in, without, is_session, asking_of, RepliesAtOnce, ReleasesOne, IsDone, AreDone}
 
 -- ---- those that wait
-
-abbrev pub IsOther : ℕ → Waiting → Type 0
-IsOther txn waiting = waiting.txn ≡ txn → ⊥
-
--- none that waits is of that number
-abbrev pub AreOthers : ℕ → List Waiting → Type 0
-AreOthers txn waiting = AllByRecursion (IsOther txn) waiting
-
-abbrev pub AreApart : List Waiting → Type 0
-AreApart [] = Unit {0}
-AreApart (one ∷ more) = AreOthers one.txn more × AreApart more
 
 abbrev pub IsThere : List Entry → Waiting → Type 0
 IsThere book waiting =
@@ -42,7 +32,6 @@ IsThere book waiting =
 
 pub record IsSettled (standing : Standing) : Type 0 where
   pub there : AllByRecursion (IsThere standing.book) standing.waiting
-  pub apart : AreApart standing.waiting
 
 -- the one that waits in a session is among them
 pub all-found : (P : Waiting → Type 0) (name : List ℕ) (ws : List Waiting) (w : Waiting) → waiting_in name ws ≡ Some w → AllByRecursion P ws → P w
@@ -60,30 +49,6 @@ all-without P name (x ∷ ws) h = by (all-without P name ws h.1) (is_session nam
     by : AllByRecursion P (without name ws) → (b : Bool) → AllByRecursion P (if b then ws else x ∷ without name ws)
     by rest true = h.1
     by rest false = (h.0, rest)
-
-apart-without : (name : List ℕ) (ws : List Waiting) → AreApart ws → AreApart (without name ws)
-apart-without name [] h = tt
-apart-without name (x ∷ ws) h = by (apart-without name ws h.1) (is_session name x)
-  where
-    by : AreApart (without name ws) → (b : Bool) → AreApart (if b then ws else x ∷ without name ws)
-    by rest true = h.1
-    by rest false = (all-without (IsOther x.txn) name ws h.0, rest)
-
--- the one that is taken out is of another number than those that are left
-pub taken-apart : (name : List ℕ) (ws : List Waiting) (w : Waiting) → waiting_in name ws ≡ Some w → AreApart ws → AreOthers w.txn (without name ws)
-taken-apart name [] w e h = cc
-taken-apart name (x ∷ ws) w e h =
-    by (λ rest. taken-apart name ws w rest h.1) (λ rest. all-found (IsOther x.txn) name ws w rest h.0) (is_session name x) e
-  where
-    by : (waiting_in name ws ≡ Some w → AreOthers w.txn (without name ws)) → (waiting_in name ws ≡ Some w → w.txn ≡ x.txn → ⊥)
-        → (b : Bool) → (if b then Some x else waiting_in name ws) ≡ Some w → AreOthers w.txn (if b then ws else x ∷ without name ws)
-    by rest other true e = subst (λ (y : Waiting). AreOthers y.txn ws) (one_value x w e) h.0
-    by rest other false e = ((λ same. other e (sym same)), rest e)
-
-apart-more : (ws : List Waiting) (w : Waiting) → AreApart ws → AreOthers w.txn ws → AreApart (ws ++ w ∷ [])
-apart-more [] w h others = (tt, tt)
-apart-more (x ∷ ws) w h others =
-    (all-more (IsOther x.txn) ws w h.0 (λ same. others.0 (sym same)), apart-more ws w h.1 others.1)
 
 -- ---- the book grows, by entries of transactions
 
@@ -115,17 +80,24 @@ pub held-of : (hold : Option Stage) (txn : ℕ) (added : List Entry) → HoldsAt
 held-of None txn added h = absurd h
 held-of (Some stage.Start) txn added h = subst (AreOf txn) (sym h) (refl, tt)
 held-of (Some stage.Read) txn added h = subst (AreOf txn) (sym h) (refl, tt)
-held-of (Some stage.Commit) txn added (inl h) = subst (AreOf txn) (sym h) (refl, tt)
-held-of (Some stage.Commit) txn added (inr h) = subst (AreOf txn) (sym h.2) (refl, (refl, tt))
+held-of (Some stage.Commit) txn added h =
+    subst (AreOf txn) (sym h.4) (
+      refl,
+      all-append (IsOf txn) h.0 h.1 (all-mapped (IsAskBy txn) (IsOf txn) (λ event ask. subst (IsOf txn) (sym ask.event_is) refl) h.0 h.2) (id-of h.1 h.3),
+    )
+  where
+    id-of : (ids : List Entry) → AddsNoneOrId txn ids → AreOf txn ids
+    id-of ids (inl none) = subst (AreOf txn) (sym none) tt
+    id-of ids (inr id) = subst (AreOf txn) (sym id.2) (refl, tt)
 held-of (Some stage.Taken) txn added h = absurd h
 held-of (Some stage.Replied) txn added h = absurd h
 
 pub grows-one : (start book : List Entry) (before now : Standing) (action : Action) (output : List ℕ) (refused : Bool)
-    → IsDone start book before now action output refused → Grown before.book now.book
+    → IsDone (from_to start book) before now action output refused → Grown before.book now.book
 grows-one start book before now (action.Announce session) output refused done = same-grown before.book now.book (ap (λ (s : Standing). s.book) done.0)
 grows-one start book before now (action.Run statement) output refused (inl replies) = by replies.goes
   where
-    by : RepliesAtOnce start book before.book now.book (asking_of statement) statement.hold output refused → Grown before.book now.book
+    by : RepliesAtOnce (from_to start book) before.book now.book (asking_of statement) statement.hold output refused → Grown before.book now.book
     by (inl went) =
         (opening before.book (asking_of statement) ∷ went.added, went.goes, ((next_number before.book, refl), owned-of (next_number before.book) went.added went.of_it))
     by (inr (inl text)) = same-grown before.book now.book text.0
@@ -141,12 +113,12 @@ grows-one start book before now (action.Run statement) output refused (inr off) 
 )
 grows-one start book before now (action.Release session) output refused done = by (waiting_in session.name before.waiting) done
   where
-    by : (o : Option Waiting) → ReleasesOne start book before now session.name o output refused → Grown before.book now.book
+    by : (o : Option Waiting) → ReleasesOne (from_to start book) before now session.name o output refused → Grown before.book now.book
     by None done = same-grown before.book now.book (ap (λ (s : Standing). s.book) done.0)
     by (Some w) done = (done.0.added, done.0.goes, owned-of w.txn done.0.added done.0.of_it)
 
 pub grows-all : (start book : List Entry) (before now : Standing) (actions : List Action) (output : List ℕ) (refused : Bool)
-    → AreDone start book before now actions output refused → Grown before.book now.book
+    → AreDone (from_to start book) before now actions output refused → Grown before.book now.book
 grows-all start book before now [] output refused done = same-grown before.book now.book (ap (λ (s : Standing). s.book) done.0)
 grows-all start book before now (first ∷ more) output refused done =
     let one = grows-one start book before done.0 first done.1 done.3 done.5 in
@@ -174,79 +146,7 @@ is-there-later before now w grown is =
 there-all : (before now : List Entry) (ws : List Waiting) → Grown before now → AllByRecursion (IsThere before) ws → AllByRecursion (IsThere now) ws
 there-all before now ws grown h = all-mapped (IsThere before) (IsThere now) (λ w is. is-there-later before now w grown is) ws h
 
--- ---- entries of another leave it as it is
-
-not-of-other : (n m : ℕ) → (n ≡ m → ⊥) → (events : List Entry) → AreOf n events → AreNotOf m events
-not-of-other n m apart [] h = tt
-not-of-other n m apart (event ∷ events) h =
-    ((λ mine. apart (one_value n m (sym h.0 ∙ mine))), not-of-other n m apart events h.1)
-
-pub left-alone : (before now added : List Entry) (n txn : ℕ) (t : Transaction) → now ≡ before ++ added → AreOf n added → (n ≡ txn → ⊥)
-    → numbered (state_of before).transactions txn ≡ Some t → numbered (state_of now).transactions txn ≡ Some t
-left-alone before now added n txn t goes whose apart at =
-    ap (λ xs. numbered (state_of xs).transactions txn) goes
-    ∙ ap (λ (s : State). numbered s.transactions txn) (fold-append after nothing_yet before added)
-    ∙ others-leave added (state_of before) txn t (not-of-other n txn apart added whose) at
-
--- the next number is of none that is there
-pub next-other : (book : List Entry) (txn : ℕ) (t : Transaction) → numbered (state_of book).transactions txn ≡ Some t → next_number book ≡ txn → ⊥
-next-other book txn t at same =
-    let within = (numbered-within (state_of book).transactions txn t at).1 in
-    omega (arith, within, same)
-
--- ---- one that doesn't wait stays as it is, and doesn't wait later
-
-pub record Stays (txn : ℕ) (t : Transaction) (now : Standing) : Type 0 where
-  pub at : numbered (state_of now.book).transactions txn ≡ Some t
-  pub apart : AreOthers txn now.waiting
-
-stays-same : (txn : ℕ) (t : Transaction) (before now : Standing) → now ≡ before → Stays txn t before → Stays txn t now
-stays-same txn t before now same stays = subst (Stays txn t) (sym same) stays
-
-stays-beside : (txn : ℕ) (t : Transaction) (before now : Standing) → now.book ≡ before.book → now.waiting ≡ before.waiting → Stays txn t before → Stays txn t now
-stays-beside txn t before now book waiting stays = record {
-  at = ap (λ xs. numbered (state_of xs).transactions txn) book ∙ stays.at;
-  apart = subst (AreOthers txn) (sym waiting) stays.apart;
-}
-
-pub one-stays : (start book : List Entry) (before now : Standing) (action : Action) (output : List ℕ) (refused : Bool) (txn : ℕ) (t : Transaction)
-    → IsDone start book before now action output refused → Stays txn t before → Stays txn t now
-one-stays start book before now (action.Announce session) output refused txn t done stays = stays-same txn t before now done.0 stays
-one-stays start book before now (action.Run statement) output refused txn t (inl replies) stays = by replies.goes
-  where
-    by : RepliesAtOnce start book before.book now.book (asking_of statement) statement.hold output refused → Stays txn t now
-    by (inl went) = record {
-      at = left-alone before.book now.book (opening before.book (asking_of statement) ∷ went.added) (next_number before.book) txn t went.goes (refl, went.of_it)
-          (next-other before.book txn t stays.at) stays.at;
-      apart = subst (AreOthers txn) (sym replies.waiting_same) stays.apart;
-    }
-    by (inr (inl text)) = stays-beside txn t before now text.0 replies.waiting_same stays
-    by (inr (inr (inl full))) = stays-beside txn t before now full.0 replies.waiting_same stays
-    by (inr (inr (inr memory))) = stays-beside txn t before now memory.0 replies.waiting_same stays
-one-stays start book before now (action.Run statement) output refused txn t (inr off) stays = record {
-  at = left-alone before.book now.book (opening before.book (asking_of statement) ∷ off.goes.added) (next_number before.book) txn t off.goes.goes
-      (refl, held-of statement.hold (next_number before.book) off.goes.added off.goes.at_hold) (next-other before.book txn t stays.at) stays.at;
-  apart = subst (AreOthers txn) (sym off.waits)
-      (all-more (IsOther txn) before.waiting (record { session = (asking_of statement).session; txn = next_number before.book }) stays.apart
-      (next-other before.book txn t stays.at));
-}
-one-stays start book before now (action.Release session) output refused txn t done stays = by (waiting_in session.name before.waiting) refl done
-  where
-    by : (o : Option Waiting) → waiting_in session.name before.waiting ≡ o → ReleasesOne start book before now session.name o output refused → Stays txn t now
-    by None is done = stays-same txn t before now done.0 stays
-    by (Some w) is done = record {
-      at = left-alone before.book now.book done.0.added w.txn txn t done.0.goes done.0.of_it
-          (all-found (IsOther txn) session.name before.waiting w is stays.apart) stays.at;
-      apart = subst (AreOthers txn) (sym done.1) (all-without (IsOther txn) session.name before.waiting stays.apart);
-    }
-
-pub all-stay : (start book : List Entry) (before now : Standing) (actions : List Action) (output : List ℕ) (refused : Bool) (txn : ℕ) (t : Transaction)
-    → AreDone start book before now actions output refused → Stays txn t before → Stays txn t now
-all-stay start book before now [] output refused txn t done stays = stays-same txn t before now done.0 stays
-all-stay start book before now (first ∷ more) output refused txn t done stays =
-    all-stay start book done.0 now more done.2 done.4 txn t done.6 (one-stays start book before done.0 first done.1 done.3 txn t done.5 stays)
-
--- ---- those that wait are there, each once
+-- ---- those that wait are there
 
 -- it is there behind its opening
 pub opened-in : (before : List Entry) (asking : Asking)
@@ -269,20 +169,16 @@ running-behind : (before now added : List Entry) (asking : Asking) → now ≡ b
 running-behind before now added asking goes owned =
     running-later (before ++ opening before asking ∷ []) now (added, goes ∙ sym (append_assoc before (opening before asking ∷ []) added), owned) (running-opened before asking)
 
-pub next-others : (book : List Entry) (ws : List Waiting) → AllByRecursion (IsThere book) ws → AreOthers (next_number book) ws
-next-others book ws h = all-mapped (IsThere book) (IsOther (next_number book)) (λ w is same. next-other book w.txn is.0 is.1 (sym same)) ws h
-
 settled-same : (before now : Standing) → now ≡ before → IsSettled before → IsSettled now
 settled-same before now same settled = subst IsSettled (sym same) settled
 
 settled-beside : (before now : Standing) → Grown before.book now.book → now.waiting ≡ before.waiting → IsSettled before → IsSettled now
 settled-beside before now grown waiting settled = record {
   there = subst (AllByRecursion (IsThere now.book)) (sym waiting) (there-all before.book now.book before.waiting grown settled.there);
-  apart = subst AreApart (sym waiting) settled.apart;
 }
 
 pub settled-one : (start book : List Entry) (before now : Standing) (action : Action) (output : List ℕ) (refused : Bool)
-    → IsDone start book before now action output refused → IsSettled before → IsSettled now
+    → IsDone (from_to start book) before now action output refused → IsSettled before → IsSettled now
 settled-one start book before now (action.Announce session) output refused done settled = settled-same before now done.0 settled
 settled-one start book before now (action.Run statement) output refused (inl replies) settled =
     settled-beside before now (grows-one start book before now (action.Run statement) output refused (inl replies)) replies.waiting_same settled
@@ -298,15 +194,13 @@ settled-one start book before now (action.Run statement) output refused (inr off
             running-behind before.book now.book off.goes.added (asking_of statement) off.goes.goes
                 (owned-of (next_number before.book) off.goes.added (held-of statement.hold (next_number before.book) off.goes.added off.goes.at_hold)),
           ));
-      apart = subst AreApart (sym off.waits) (apart-more before.waiting w settled.apart (next-others before.book before.waiting settled.there));
     }
 settled-one start book before now (action.Release session) output refused done settled = by (waiting_in session.name before.waiting) refl done
   where
-    by : (o : Option Waiting) → waiting_in session.name before.waiting ≡ o → ReleasesOne start book before now session.name o output refused → IsSettled now
+    by : (o : Option Waiting) → waiting_in session.name before.waiting ≡ o → ReleasesOne (from_to start book) before now session.name o output refused → IsSettled now
     by None is done = settled-same before now done.0 settled
     by (Some w) is done = record {
       there = subst (AllByRecursion (IsThere now.book)) (sym done.1)
           (all-without (IsThere now.book) session.name before.waiting
           (there-all before.book now.book before.waiting (done.0.added, done.0.goes, owned-of w.txn done.0.added done.0.of_it) settled.there));
-      apart = subst AreApart (sym done.1) (apart-without session.name before.waiting settled.apart);
     }

@@ -1,5 +1,5 @@
 -- A run in which no device failed and memory was found makes the serial history.
-use Rattle.std.proofs.Common.{◌≡◌, ℕ, inl, inr, Option, Some, None, List, [], ◌∷◌, ◌++◌, refl, sym, ap, ◌∙◌, subst, append_assoc}
+use Rattle.std.proofs.Common.{◌≡◌, ℕ, inl, inr, Option, Some, None, List, [], ◌∷◌, ◌++◌, refl, ap, ◌∙◌, subst, append_assoc}
 use Rattle.std.specs.Prelude.{Bool}
 use Rattle.hv_script.specs.declared.actions.Action.{Action}
 use Rattle.hv_script.specs.declared.actions.Action.TheVariants as action
@@ -7,31 +7,31 @@ use Rattle.hv_history.specs.declared.entry.Entry.{Entry}
 use Rattle.hv_history.specs.Legal.{IsLegal, profile}
 use Rattle.hv_law_next.specs.Order.{AreSteady}
 use Rattle.hv_law_next.proofs.Going.{legal-parts}
+use Rattle.hv_program.specs.Change.{from_to}
 use Rattle.hv_program.specs.Doing.{Waiting, Standing, waiting_in, asking_of, ReleasesOne, IsDone, AreDone}
 use Rattle.hv_program.specs.Running.{beginning}
 use Rattle.hv_law_serial.specs.Serial.{released, serial_one, serial}
 use Rattle.hv_law_serial.specs.History.{AddsSteadily, memory_line, AreInMemory, SerialHistory}
-use Rattle.hv_law_serial.proofs.Actions.{Grown, AreOthers, IsSettled, IsThere, all-found, taken-apart, grows-one, grows-all, all-stay, settled-one}
-use Rattle.hv_law_serial.proofs.Statements.{StaysIn, at-once, put-off, goes-on-held}
+use Rattle.hv_law_serial.proofs.Actions.{Grown, IsSettled, IsThere, all-found, grows-one, grows-all, settled-one}
+use Rattle.hv_law_serial.proofs.Statements.{at-once, put-off, goes-on-held}
 
 -- one action
 serially-one : (start book : List Entry) (before between : Standing) (first : Action) (reply : List ℕ) (refused : Bool)
-    → IsDone start book before between first reply refused → StaysIn book between → IsSettled before → IsLegal profile between.book
+    → IsDone (from_to start book) before between first reply refused → IsSettled before → IsLegal profile between.book
     → AddsSteadily before.book between.book → (reply ≡ memory_line → ⊥) → between ≡ serial_one before first
-serially-one start book before between (action.Announce session) reply refused done stay settled legal steady in_memory = done.0
-serially-one start book before between (action.Run statement) reply refused (inl replies) stay settled legal steady in_memory =
-    at-once start book before between (asking_of statement) statement.hold stay settled legal steady reply refused replies in_memory
-serially-one start book before between (action.Run statement) reply refused (inr off) stay settled legal steady in_memory =
-    put-off start book before between (asking_of statement) statement.hold stay settled legal steady reply refused off
-serially-one start book before between (action.Release session) reply refused done stay settled legal steady in_memory =
+serially-one start book before between (action.Announce session) reply refused done settled legal steady in_memory = done.0
+serially-one start book before between (action.Run statement) reply refused (inl replies) settled legal steady in_memory =
+    at-once start book before between (asking_of statement) statement.hold legal steady reply refused replies in_memory
+serially-one start book before between (action.Run statement) reply refused (inr off) settled legal steady in_memory =
+    put-off start book before between (asking_of statement) statement.hold legal steady reply refused off
+serially-one start book before between (action.Release session) reply refused done settled legal steady in_memory =
     by (waiting_in session.name before.waiting) refl done
   where
-    by : (o : Option Waiting) → waiting_in session.name before.waiting ≡ o → ReleasesOne start book before between session.name o reply refused
+    by : (o : Option Waiting) → waiting_in session.name before.waiting ≡ o → ReleasesOne (from_to start book) before between session.name o reply refused
         → between ≡ released before session.name o
     by None is done = done.0
     by (Some w) is done =
-        goes-on-held start book before between session.name w reply refused stay
-        (subst (AreOthers w.txn) (sym done.1) (taken-apart session.name before.waiting w is settled.apart))
+        goes-on-held start book before between session.name w reply refused
         (all-found (IsThere before.book) session.name before.waiting w is settled.there) legal steady done.0 done.1
 
 -- what was added, in two parts
@@ -49,16 +49,15 @@ steady-behind before between now grown steady added goes =
 
 -- several
 serially : (start : List Entry) (before now : Standing) (actions : List Action) (output : List ℕ) (refused : Bool)
-    (done : AreDone start now.book before now actions output refused) → IsSettled before → IsLegal profile now.book → AddsSteadily before.book now.book
-    → AreInMemory start now.book before now actions output refused done → now ≡ serial before actions
+    (done : AreDone (from_to start now.book) before now actions output refused) → IsSettled before → IsLegal profile now.book → AddsSteadily before.book now.book
+    → AreInMemory (from_to start now.book) before now actions output refused done → now ≡ serial before actions
 serially start before now [] output refused done settled legal steady in_memory = done.0
 serially start before now (first ∷ more) output refused done settled legal steady in_memory =
     let between : Standing = done.0 in
     let front = grows-one start now.book before between first done.1 done.3 done.5 in
     let behind = grows-all start now.book between now more done.2 done.4 done.6 in
-    let one = serially-one start now.book before between first done.1 done.3 done.5
-    (λ txn t stays. (all-stay start now.book between now more done.2 done.4 txn t done.6 stays).at)
-    settled (legal-parts between.book behind.0 (subst (IsLegal profile) behind.1 legal)).front
+    let one = serially-one start now.book before between first done.1 done.3 done.5 settled
+    (legal-parts between.book behind.0 (subst (IsLegal profile) behind.1 legal)).front
     (steady-front before.book between.book now.book behind steady) in_memory.0 in
     serially start between now more done.2 done.4 done.6 (settled-one start now.book before between first done.1 done.3 done.5 settled) legal
     (steady-behind before.book between.book now.book front steady) in_memory.1
@@ -66,4 +65,4 @@ serially start before now (first ∷ more) output refused done settled legal ste
 
 pub serial-history : SerialHistory
 serial-history start now actions output refused done steady =
-    serially start (beginning start) now actions output refused done (record { there = tt; apart = tt }) steady.legal steady.steady steady.in_memory
+    serially start (beginning start) now actions output refused done (record { there = tt }) steady.legal steady.steady steady.in_memory

@@ -35,12 +35,12 @@ module _ (low high : ℕ) (unrisen : high ≤ low) where
       subst AreSteady same (steady-all grows.more grows.of_run (remembered grows.more grows.book_is))
 
 pub script-history : ScriptHistory
-script-history low high book script left written now store refused all calm =
+script-history faults book source written store refused all calm =
     let last : Standing = all.served.last in
-    let is : last ≡ history_of book script =
-    serial-history (opening_of book) last (actions_of script) all.served.output refused all.served.are_done (record {
+    let is : last ≡ history_of book source.was =
+    serial-history (opening_of book) last (actions_of source.was) all.served.output refused all.served.are_done (record {
       legal = all.served.is_book.legal;
-      steady = adds-steadily low high calm.unrisen (opening_of book) last.book all.served.is_book.grows calm.in_memory;
+      steady = adds-steadily faults.was faults.now calm.unrisen (opening_of book) last.book all.served.is_book.grows calm.in_memory;
       in_memory = calm.replies;
     }) in
     record {

@@ -1,13 +1,15 @@
 -- The script worked out by hand, action by action.
-use Rattle.std.proofs.Common.{◌≡◌, ℕ, Option, Some, None, List, [], ◌∷◌, ◌++◌, take, drop, ap, ◌∙◌}
+use Rattle.std.proofs.Common.{◌≡◌, ℕ, suc, ◌+◌, Option, Some, None, List, [], ◌∷◌, ◌++◌, take, drop, ap, ◌∙◌, arith}
 use Rattle.std.specs.Prelude.{true}
 use Rattle.hv_base.specs.declared.gate.Stage.{Stage}
 use Rattle.hv_base.specs.declared.gate.Stage.TheVariants as stage
 use Rattle.hv_history.specs.declared.entry.Entry.{Entry}
 use Rattle.hv_history.specs.declared.entry.Entry.TheVariants as entry
 use Rattle.hv_history.specs.declared.entry.Cause.TheVariants as cause
-use Rattle.hv_history.specs.State.{acted, state_of}
+use Rattle.hv_history.specs.Asking.{listed_in}
+use Rattle.hv_history.specs.State.{numbered, acted, state_of}
 use Rattle.hv_law_next.specs.Next.{due, with_one, steps, carried_on, start, abort}
+use Rattle.hv_law_next.proofs.Going.{idle}
 use Rattle.hv_program.specs.Doing.{Waiting, Standing, asking_of}
 use Rattle.hv_program.specs.Running.{beginning}
 use Rattle.hv_law_serial.specs.Serial.{text_runs, if_runs, stood, taken_up, released, serial}
@@ -18,9 +20,11 @@ carried : (hold : Option Stage) (txn : ℕ) (book : List Entry) (event : Entry) 
     → due hold (state_of (book ++ event ∷ [])) txn ≡ None → carried_on hold txn book ≡ book ++ event ∷ []
 unfolding carried_on
 carried hold txn book event next none =
-    ap (λ o. steps 2 hold txn (with_one book o)) next
-    ∙ ap (λ o. steps 1 hold txn (with_one (book ++ event ∷ []) o)) none
-    ∙ ap (λ o. steps 0 hold txn (with_one (book ++ event ∷ []) o)) none
+    let n : ℕ = listed_in (numbered (state_of book).transactions txn) in
+    let more : 3 + n ≡ suc (2 + n) = omega arith in
+    ap (λ k. steps k hold txn book) more
+    ∙ ap (λ o. steps (2 + n) hold txn (with_one book o)) next
+    ∙ idle (2 + n) hold txn (book ++ event ∷ []) none
 
 abbrev held_one : Waiting
 held_one = record { session = one_by_hand.name; txn = 1 }

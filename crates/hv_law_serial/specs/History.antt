@@ -6,6 +6,7 @@ use Rattle.hv_history.specs.declared.entry.Cause.TheVariants as cause
 use Rattle.hv_history.specs.Legal.{IsLegal, profile}
 use Rattle.hv_history.specs.Answers.{cause_text}
 use Rattle.hv_law_next.specs.Order.{AreSteady}
+use Rattle.hv_program.specs.Change.{Change, from_to}
 use Rattle.hv_program.specs.Doing.{Standing, AreDone}
 use Rattle.hv_program.specs.Running.{beginning}
 use Rattle.hv_law_serial.specs.Serial.{serial}
@@ -18,21 +19,21 @@ AddsSteadily start book = (added : List Entry) → book ≡ start ++ added → A
 abbrev pub memory_line : List ℕ
 memory_line = cause_text None cause.Memory
 
-abbrev pub AreInMemory : (start book : List Entry) (before now : Standing) (actions : List Action) (output : List ℕ) (refused : Bool)
-    → AreDone start book before now actions output refused → Type 0
-AreInMemory start book before now [] output refused done = Unit {0}
-AreInMemory start book before now (first ∷ more) output refused done =
-    (done.1 ≡ memory_line → ⊥) × AreInMemory start book done.0 now more done.2 done.4 done.6
+abbrev pub AreInMemory : (books : Change (List Entry)) (before now : Standing) (actions : List Action) (output : List ℕ) (refused : Bool)
+    → AreDone books before now actions output refused → Type 0
+AreInMemory books before now [] output refused done = Unit {0}
+AreInMemory books before now (first ∷ more) output refused done =
+    (done.1 ≡ memory_line → ⊥) × AreInMemory books done.0 now more done.2 done.4 done.6
 
 -- a run in which no device failed and memory was found
 pub record RanSteadily (start : List Entry) (now : Standing) (actions : List Action) (output : List ℕ) (refused : Bool)
-    (done : AreDone start now.book (beginning start) now actions output refused) : Type 0 where
+    (done : AreDone (from_to start now.book) (beginning start) now actions output refused) : Type 0 where
   pub legal : IsLegal profile now.book
   pub steady : AddsSteadily start now.book
-  pub in_memory : AreInMemory start now.book (beginning start) now actions output refused done
+  pub in_memory : AreInMemory (from_to start now.book) (beginning start) now actions output refused done
 
 abbrev pub SerialHistory : Type 0
 SerialHistory =
     (start : List Entry) (now : Standing) (actions : List Action) (output : List ℕ) (refused : Bool)
-    (done : AreDone start now.book (beginning start) now actions output refused)
+    (done : AreDone (from_to start now.book) (beginning start) now actions output refused)
     → RanSteadily start now actions output refused done → now ≡ serial (beginning start) actions

@@ -7,6 +7,7 @@ use Rattle.hv_history.specs.declared.entry.Entry.{Entry}
 use Rattle.hv_history.specs.declared.entry.Entry.TheVariants as entry
 use Rattle.hv_history.specs.declared.entry.Cause.TheVariants as cause
 use Rattle.hv_house.specs.Booting.{opening_of}
+use Rattle.hv_program.specs.Change.{Change, from_to}
 use Rattle.hv_program.specs.Doing.{Standing}
 use Rattle.hv_program.specs.Running.{beginning}
 use Rattle.hv_program.specs.Results.{HasBook}
@@ -27,11 +28,12 @@ abbrev pub history_of : List Entry → List ℕ → Standing
 history_of book script = serial (beginning (opening_of book)) (actions_of script)
 
 -- In a run that did all its script the store's count of faults didn't rise, and memory was found, by its entries and by its replies.
-pub record IsUntroubled (low high : ℕ) (book : List Entry) (script left written now : List ℕ) (store : Store) (refused : Bool)
-    (all : IsAllDone low high book script left written now store refused) : Type 0 where
-  pub unrisen : high ≤ low
+pub record IsUntroubled (faults : Change ℕ) (book : List Entry) (source written : Change (List ℕ)) (store : Store) (refused : Bool)
+    (all : IsAllDone faults book source written store refused) : Type 0 where
+  pub unrisen : faults.now ≤ faults.was
   pub in_memory : AddsInMemory (opening_of book) all.served.last.book
-  pub replies : AreInMemory (opening_of book) all.served.last.book (beginning (opening_of book)) all.served.last (actions_of script) all.served.output refused all.served.are_done
+  pub replies : AreInMemory (from_to (opening_of book) all.served.last.book) (beginning (opening_of book)) all.served.last (actions_of source.was) all.served.output refused
+      all.served.are_done
 
 -- the store has the book of the serial history, behind which none waits
 pub record KeepsHistory (book : List Entry) (script : List ℕ) (store : Store) : Type 0 where
@@ -40,6 +42,6 @@ pub record KeepsHistory (book : List Entry) (script : List ℕ) (store : Store) 
 
 abbrev pub ScriptHistory : Type 0
 ScriptHistory =
-    (low high : ℕ) (book : List Entry) (script left written now : List ℕ) (store : Store) (refused : Bool)
-    (all : IsAllDone low high book script left written now store refused)
-    → IsUntroubled low high book script left written now store refused all → KeepsHistory book script store
+    (faults : Change ℕ) (book : List Entry) (source written : Change (List ℕ)) (store : Store) (refused : Bool)
+    (all : IsAllDone faults book source written store refused)
+    → IsUntroubled faults book source written store refused all → KeepsHistory book source.was store

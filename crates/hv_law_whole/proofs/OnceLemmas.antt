@@ -1,6 +1,6 @@
 -- Each row is deleted once: a later commit that deletes where an earlier one did has its snapshot behind it, since it would conflict
 -- else; and so the row wasn't there any more.
-use Rattle.std.proofs.Common.{refl, ◌≡◌, ◌⊎◌, inl, inr, ℕ, zero, suc, ◌+◌, ◌<◌, ◌==◌, ◌&&◌, nat_eq, true, false, not, is_some, Option, Some, None, List, [], ◌∷◌, ◌++◌, map, filter, fold, sym, ap, ◌∙◌, subst, arith, eq-eqb, true≢false}
+use Rattle.std.proofs.Common.{refl, ◌≡◌, ◌⊎◌, inl, inr, ℕ, zero, suc, ◌+◌, ◌<◌, ◌==◌, ◌&&◌, nat_eq, true, false, not, is_some, Option, Some, None, List, [], ◌∷◌, ◌++◌, map, filter, fold, length, sym, ap, ◌∙◌, subst, arith, eq-eqb, true≢false}
 use Rattle.std.specs.Prelude.{nat_lt, IsTrue}
 use Rattle.std.specs.Cmp.Lexicographic.{pointwise, slice_cmp}
 use Rattle.std.specs.List.{flat_map, list_any, AllByRecursion}
@@ -24,7 +24,7 @@ use Rattle.hv_history.specs.declared.state.Table.{Table}
 use Rattle.hv_history.specs.declared.state.Transaction.{Transaction}
 use Rattle.hv_history.specs.declared.state.Written.{Written}
 use Rattle.hv_history.specs.State.{State, numbered, changed, content_of, is_deleted, given_in, meaning, written_by, commits, tables_behind, written_to, owned, dropped, forgot, made_by, first_of, unless_ended, while_open, opened, started, given_id, committed, ended, acted, after, nothing_yet}
-use Rattle.hv_history.specs.Legal.{profile, CommitFits, Rise, TouchesAreMeant, IsTruthful, AllTruthful, commits_against, place_of_snapshot, touch_conflicts, touches_conflict}
+use Rattle.hv_history.specs.Legal.{profile, CommitFits, Rise, TouchesAreMeant, CommitIsTrue, IsTruthful, AllTruthful, commits_against, place_of_snapshot, touch_conflicts, touches_conflict}
 use Rattle.hv_history.specs.JobsFit.{JobFits, AllJobsFit}
 use Rattle.hv_history.proofs.LastingLaws.{goes-on}
 use Rattle.hv_route.specs.Touching.{touches_of}
@@ -149,7 +149,7 @@ abbrev pub Takes : State → Entry → Type 0
 Takes s event =
     (n : ℕ) (t : Transaction) (snapshot : Snapshot) → numbered (after s event).transactions n ≡ Some t → t.snapshot ≡ Some snapshot
     → ((before : Transaction) × (numbered s.transactions n ≡ Some before) × (before.snapshot ≡ Some snapshot))
-    ⊎ ((snapshot ≡ record { place = s.entries; tables = s.tables }) × ((after s event).tables ≡ s.tables))
+    ⊎ ((snapshot ≡ record { place = s.entries; tables = s.tables; opened = length s.transactions }) × ((after s event).tables ≡ s.tables))
 
 module _ (s : State) (event : Entry) (once : IsOnce s) (base : IsSoundBase (after s event))
     (knows : AllByRecursion (Knows (after s event).tables) (after s event).transactions) (goes : Goes s event) (takes : Takes s event) where
@@ -276,13 +276,13 @@ takes-opened s event session number text transactions n t snapshot at taken =
 
 started-snapshot : (s : State) (number : ℕ) (x : Transaction) (o : Option Ending) (before : Option Snapshot) (snapshot : Snapshot) → x.snapshot ≡ before
     → (unless_ended o x (started s number x)).snapshot ≡ Some snapshot
-    → (x.snapshot ≡ Some snapshot) ⊎ (snapshot ≡ record { place = s.entries; tables = s.tables })
+    → (x.snapshot ≡ Some snapshot) ⊎ (snapshot ≡ record { place = s.entries; tables = s.tables; opened = length s.transactions })
 started-snapshot s number x (Some e) before snapshot is taken = inl taken
 started-snapshot s number x None (Some old) snapshot is taken =
-    let fresh : Snapshot = record { place = s.entries; tables = s.tables } in
+    let fresh : Snapshot = record { place = s.entries; tables = s.tables; opened = length s.transactions } in
     inl (is ∙ (sym (ap (λ o. first_of o fresh) is) ∙ taken))
 started-snapshot s number x None None snapshot is taken =
-    let fresh : Snapshot = record { place = s.entries; tables = s.tables } in
+    let fresh : Snapshot = record { place = s.entries; tables = s.tables; opened = length s.transactions } in
     inr (sym (one_value fresh snapshot (sym (ap (λ o. first_of o fresh) is) ∙ taken)))
 
 takes-started : (s : State) (event : Entry) (number k : ℕ) → (after s event).transactions ≡ changed (while_open (started s number)) s.transactions k → (after s event).tables ≡ s.tables
@@ -403,9 +403,9 @@ module _ (s : State) (txn : TxnId) (wrote : List Touch) (once : IsOnce s) (t : T
 true-touches : (s : State) (txn : TxnId) (wrote : List Touch) (t : Transaction) → numbered s.transactions txn.0 ≡ Some t → IsTruthful s (entry.Commit txn wrote)
     → (info : TableInfo) (effect : Effect) → meaning t ≡ Some (Change info effect) → wrote ≡ touches_of info effect
 true-touches s txn wrote t at truth info effect means =
-    let there = found (λ (transaction : Transaction). TouchesAreMeant wrote (meaning transaction)) (numbered s.transactions txn.0) truth in
+    let there = found (CommitIsTrue s txn.0 wrote) (numbered s.transactions txn.0) truth in
     let same : there.0 ≡ t = same_one (numbered s.transactions txn.0) there.0 t there.1 at in
-    subst (TouchesAreMeant wrote) (ap meaning same ∙ means) there.2
+    subst (TouchesAreMeant wrote) (ap meaning same ∙ means) there.2.touches
 
 goes-by : (s : State) (txn : TxnId) (wrote : List Touch) → IsTruthful s (entry.Commit txn wrote) → IsOnce s → (t : Transaction) → numbered s.transactions txn.0 ≡ Some t → CommitFits s wrote t
     → (after s (entry.Commit txn wrote)).tables ≡ tables_behind (commits (Some t)) s.tables → OneWrite (meaning t) t.given (commits (Some t)) → Goes s (entry.Commit txn wrote)

@@ -31,7 +31,7 @@ use Rattle.hv_history.specs.declared.state.Table.{Table}
 use Rattle.hv_history.specs.declared.state.Transaction.{Transaction}
 use Rattle.hv_history.specs.declared.state.Written.{Written}
 use Rattle.hv_history.specs.State.{State, numbered, changed, given_in, meaning, writes_of, written_by, wrote_as, changed_at, commits, tables_behind, written_to, unless_ended, while_open, opened, started, given_id, committed, ended, acted, after, nothing_yet}
-use Rattle.hv_history.specs.Legal.{CommitFits, IsOwnTouch, TouchesAreMeant, IsTruthful, AllTruthful}
+use Rattle.hv_history.specs.Legal.{CommitFits, IsOwnTouch, TouchesAreMeant, CommitIsTrue, IsTruthful, AllTruthful}
 use Rattle.hv_history.specs.JobsFit.{JobFits, AllJobsFit}
 use Rattle.hv_stands.specs.Sound.{info_in, given_of, owners_of, given_among, IsSingle, IsSoundBase}
 use Rattle.hv_stands.proofs.Numbers.{one_value, none_is, same_one, found, numbered-map, numbered-or-last, changed-here}
@@ -319,9 +319,9 @@ said-of : (limits : Limits) (s : State) (event : Entry) → JobFits limits s eve
 unfolding acted
 said-of limits s (entry.Commit txn wrote) fits truth base =
     let here = found (CommitFits s wrote) (numbered s.transactions txn.0) fits in
-    let meant = found (λ (transaction : Transaction). TouchesAreMeant wrote (meaning transaction)) (numbered s.transactions txn.0) truth in
+    let meant = found (CommitIsTrue s txn.0 wrote) (numbered s.transactions txn.0) truth in
     let same : meant.0 ≡ here.0 = same_one (numbered s.transactions txn.0) meant.0 here.0 meant.1 here.1 in
-    let said = commit-says s txn wrote base here.0 here.1 here.2 (subst (λ (t : Transaction). TouchesAreMeant wrote (meaning t)) same meant.2) in
+    let said = commit-says s txn wrote base here.0 here.1 here.2 (subst (λ (t : Transaction). TouchesAreMeant wrote (meaning t)) same meant.2.touches) in
     commits-changed s (entry.Commit txn wrote) (committed s.entries wrote) txn.0 refl
     (λ b place those at none over.
     let one : here.0 ≡ b = same_one (numbered s.transactions txn.0) here.0 b here.1 at in

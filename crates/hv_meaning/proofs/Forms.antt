@@ -426,6 +426,7 @@ means-form (stmt.Show what) infos found e =
     free-means infos found (show_analysed infos what) (free-shown infos what) (shows-are (Means infos found) infos what tt)
 means-form (stmt.Set setting) infos found e =
     free-means infos found (set_analysed setting) (free-setting setting) (settings-are (Means infos found) setting tt)
+means-form (stmt.AbortTransactions txns) infos found e = tt
 means-form other infos found e = cc
 
 pub forms-mean : FormsMean

@@ -9,3 +9,4 @@ pub mod Meanings
 mod Drops
 pub mod Forms
 pub mod Unseen
+pub mod Requests

@@ -102,6 +102,7 @@ module _ (infos : List TableInfo) (found others : List (List Found)) where
   unseen-form (stmt.Describe table) e = same-meant (described infos table) (describes-are Same infos table (λ columns. refl))
   unseen-form (stmt.Show what) e = same-meant (show_analysed infos what) (shows-are Same infos what refl)
   unseen-form (stmt.Set setting) e = same-meant (set_analysed setting) (settings-are Same setting refl)
+  unseen-form (stmt.AbortTransactions txns) e = refl
   unseen-form other e = cc
 
   unseen-over : (tree : Stmt) → reads_rows tree ≡ false → meaning_over tree infos found ≡ meaning_over tree infos others

@@ -184,6 +184,7 @@ reads_rows (stmt.DropTable dropping) = false
 reads_rows (stmt.Show show) = false
 reads_rows (stmt.Describe table) = false
 reads_rows (stmt.Set setting) = false
+reads_rows (stmt.AbortTransactions txns) = false
 reads_rows _ = true
 
 -- over the tables that it names

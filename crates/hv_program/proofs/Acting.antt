@@ -6,62 +6,56 @@ use Rattle.std.proofs.lemmas.List.{append-nil, append_cancel_left}
 use Rattle.std.proofs.lemmas.List.Elements.{Contains-append_right}
 use Rattle.hv_base.specs.declared.gate.Stage.{Stage}
 use Rattle.hv_base.specs.declared.gate.Stage.TheVariants as stage
-use Rattle.hv_base.specs.declared.ids.TableId.{TableId}
-use Rattle.hv_base.specs.declared.ids.WriteId.{WriteId}
 use Rattle.hv_shelf.specs.Disk.{Store}
 use Rattle.hv_history.specs.declared.entry.Entry.{Entry}
 use Rattle.hv_history.specs.declared.entry.Entry.TheVariants as entry
 use Rattle.hv_history.specs.State.{State, state_of, after}
+use Rattle.hv_history.specs.Legal.{Fits, profile}
 use Rattle.hv_journal.specs.Appending.{Holds}
 use Rattle.hv_script.specs.declared.actions.Action.{Action}
 use Rattle.hv_script.specs.declared.actions.Action.TheVariants as action
 use Rattle.hv_script.specs.declared.actions.Session.{Session}
 use Rattle.hv_script.specs.declared.actions.Statement.{Statement}
-use Rattle.hv_stands.specs.Running.{Asking, next_number, opening, AreOf}
+use Rattle.hv_stands.specs.Running.{Asking, next_number, opening, starting, IsOf, AreOf}
 use Rattle.hv_stands.specs.Statements.{AllFitting}
 use Rattle.hv_stands.proofs.Numbers.{numbered-within}
-use Rattle.hv_session.specs.hv_steps.specs.hv_acts.specs.hv_telling.specs.hv_house.specs.declared.fault.HouseFault.{HouseFault}
-use Rattle.hv_session.specs.hv_steps.specs.hv_acts.specs.hv_telling.specs.hv_house.specs.declared.fault.HouseFault.TheVariants as fault
-use Rattle.hv_session.specs.hv_steps.specs.hv_acts.specs.hv_telling.specs.hv_house.specs.declared.house.House.{House}
-use Rattle.hv_session.specs.hv_steps.specs.hv_acts.specs.hv_telling.specs.hv_house.specs.House.{entries_of, BeginFits, beginning_of, Leaves}
-use Rattle.hv_session.specs.hv_steps.specs.hv_acts.specs.hv_telling.specs.Telling.{IsWhole, IsToldHouse, StillOpens}
-use Rattle.hv_session.specs.hv_steps.specs.hv_acts.specs.hv_telling.proofs.Told.{told-stays}
-use Rattle.hv_session.specs.hv_steps.specs.hv_acts.specs.hv_telling.proofs.Opens.{whole-opens}
-use Rattle.hv_session.specs.hv_steps.specs.Ending.{AddsOf, HasStopped, KeepsCount, IsUndamaged, HasReplied}
+use Rattle.hv_session.specs.hv_steps.specs.hv_table_reader.specs.hv_acts.specs.hv_telling.specs.hv_house.specs.declared.fault.HouseFault.{HouseFault}
+use Rattle.hv_session.specs.hv_steps.specs.hv_table_reader.specs.hv_acts.specs.hv_telling.specs.hv_house.specs.declared.fault.HouseFault.TheVariants as fault
+use Rattle.hv_session.specs.hv_steps.specs.hv_table_reader.specs.hv_acts.specs.hv_telling.specs.hv_house.specs.declared.house.House.{House}
+use Rattle.hv_session.specs.hv_steps.specs.hv_table_reader.specs.hv_acts.specs.hv_telling.specs.hv_house.specs.House.{entries_of, BeginFits, beginning_of, Leaves}
+use Rattle.hv_session.specs.hv_steps.specs.hv_table_reader.specs.hv_acts.specs.hv_telling.specs.Telling.{IsWhole, IsToldHouse, StillOpens}
+use Rattle.hv_session.specs.hv_steps.specs.hv_table_reader.specs.hv_acts.specs.hv_telling.proofs.Told.{told-stays}
+use Rattle.hv_session.specs.hv_steps.specs.hv_table_reader.specs.hv_acts.specs.hv_telling.proofs.Opens.{whole-opens}
+use Rattle.hv_session.specs.hv_steps.specs.Ending.{AddsOf, HasStopped, KeepsCount, IsUndamaged, IsAskBy, AddsNoneOrId, HasReplied}
+use Rattle.hv_session.specs.hv_steps.specs.hv_table_reader.specs.hv_acts.specs.Answers.{OpensNone}
+use Rattle.hv_session.specs.hv_steps.specs.hv_table_reader.specs.hv_acts.specs.Meant.{IsNoEnd}
 use Rattle.hv_session.specs.hv_steps.specs.declared.ready.Reply.{Reply}
-use Rattle.hv_session.specs.hv_steps.specs.declared.reply.Done.TheVariants as done
 use Rattle.hv_session.specs.declared.paused.Paused.{Paused}
 use Rattle.hv_session.specs.declared.paused.Taken.{Taken}
 use Rattle.hv_session.specs.declared.paused.Taken.TheVariants as taken
-use Rattle.hv_session.specs.Taking.{IsHeld, IsHeldBySome, IsTrulyHeld, HoldsAt, IsReplied, WentThrough, IsKept, IsKeptIn, IsTakenAs, IsFinished}
+use Rattle.hv_session.specs.Taking.{IsHeld, HoldsAt, HasReadied, IsReplied, WentThrough, IsKept, IsKeptIn, IsTakenAs, IsFinished}
 use Rattle.hv_session.specs.Ways.{StopsTaken}
 use Rattle.hv_program.specs.declared.held.Held.{Held}
+use Rattle.hv_program.specs.Change.{from_to}
 use Rattle.hv_program.specs.Doing.{Waiting, Standing, is_session, waiting_in, asking_of, ReleasesOne}
 use Rattle.hv_program.specs.Own.{Grows, IsOfRun}
-use Rattle.hv_program.specs.Keeping.{waiting_of, paused_in, held_without, IsHeldIn, standing_of, AreHeld, IsTrulyHeldIn, AreTrulyHeld}
-use Rattle.hv_program.specs.Running.{IsLater, Acts, txn_of_waiting, number_of, AreOfSome, Stops}
-use Rattle.hv_program.proofs.HeldStay.{LeavesAlone, others, all-stay, all-true}
+use Rattle.hv_program.specs.Keeping.{waiting_of, paused_in, held_without, IsHeldIn, standing_of, AreHeld, StandsTruly, IsTrulyHeldIn, AreTrulyHeld}
+use Rattle.hv_program.specs.Running.{IsLater, Acts, txn_of_waiting, number_of, AreOfSome, AreNoEnds, IsOpenedFor, Stops, OpensOf}
+use Rattle.hv_program.proofs.HeldStay.{all-stay, all-true, held-within}
 use Rattle.hv_program.proofs.HeldLists.{found-waits, none-waits, waits-without, waits-last, none-left, all-without, all-found, all-last, all-map, order-without, order-last, found-apart, IsApart, IsBelow}
-use Rattle.hv_program.proofs.OwnEntries.{unlost-all, unlost-or-none, not-lost, state-of, more-fits, of-run, grows-none}
+use Rattle.hv_program.proofs.OwnEntries.{all-append, unlost-all, unlost-or-none, not-lost, state-of, more-fits, of-run, grows-none}
 use Rattle.hv_program.proofs.Counted.{grown-transactions}
 
 -- ---- the others that are held
 
 apart-next : (before : List Entry) (held : Held) → IsHeldIn before held → IsApart (next_number before) held
-apart-next before held is = λ e.
-    let within = numbered-within (state_of before).transactions held.paused.way.txn.0 _ is.1.under_way.here in
-    absurd (omega (arith, within.1, e))
+apart-next before held is = λ e. absurd (omega (arith, held-within before held is, e))
 
 below-next : (before : List Entry) (txn : ℕ) → txn ≡ next_number before → (held : Held) → IsHeldIn before held → IsBelow txn held
-below-next before txn at held is =
-    let within = numbered-within (state_of before).transactions held.paused.way.txn.0 _ is.1.under_way.here in
-    omega (arith, within.1, at)
+below-next before txn at held is = omega (arith, held-within before held is, at)
 
 pub next-apart : (before : List Entry) (helds : List Held) → AreHeld before helds → AllByRecursion (IsApart (next_number before)) helds
 next-apart before helds h = all-map (IsHeldIn before) (IsApart (next_number before)) helds (apart-next before) h.each
-
-leaves-alone : (txn : ℕ) (more : List Entry) (helds : List Held) → AreOf txn more → AllByRecursion (IsApart txn) helds → AllByRecursion (LeavesAlone more) helds
-leaves-alone txn more helds of_it apart = all-map (IsApart txn) (LeavesAlone more) helds (λ held is. others txn held.paused.way.txn.0 is more of_it) apart
 
 begun-after : (before now : List Entry) (helds : List Held) (txn low high : ℕ) → AddsOf txn low high before now
     → (helds ≡ []) ⊎ ((state_of before).openings.only_lost ≡ false) → (helds ≡ []) ⊎ ((state_of now).openings.only_lost ≡ false)
@@ -73,7 +67,7 @@ pub held-after : (before now : List Entry) (helds : List Held) (txn low high : �
     → AllByRecursion (IsApart txn) helds → AreHeld before helds → AreHeld now helds
 held-after before now helds txn low high fit adds apart h = record {
   each = subst (λ (book : List Entry). AllByRecursion (IsHeldIn book) helds) (sym adds.book)
-      (all-stay before adds.added helds (subst AllFitting adds.book fit) (leaves-alone txn adds.added helds adds.of_it apart) h.each);
+      (all-stay before adds.added txn helds (subst AllFitting adds.book fit) adds.of_it apart h.each);
   apart = h.apart;
   begun = begun-after before now helds txn low high adds h.begun;
 }
@@ -82,7 +76,7 @@ truly-after : (before now : List Entry) (helds : List Held) (txn low high : ℕ)
     → AllByRecursion (IsTrulyHeldIn before) helds → AllByRecursion (IsTrulyHeldIn now) helds
 truly-after before now helds txn low high fits adds apart truly =
     subst (λ (book : List Entry). AllByRecursion (IsTrulyHeldIn book) helds) (sym adds.book)
-    (all-true before adds.added helds (subst AllFitting adds.book fits) (leaves-alone txn adds.added helds adds.of_it apart) truly)
+    (all-true before adds.added txn helds (subst AllFitting adds.book fits) adds.of_it apart truly)
 
 -- ---- one more that is held
 
@@ -108,7 +102,7 @@ pub held-one-more : (before now : List Entry) (helds : List Held) (held : Held) 
 held-one-more before now helds held asking low high fit adds h kept =
     let all = held-after before now helds (next_number before) low high fit adds (next-apart before helds h) h in
     record {
-      each = all-last (IsHeldIn now) helds held all.each (asking, kept.1);
+      each = all-last (IsHeldIn now) helds held all.each (inl (asking, kept.1));
       apart = order-last helds held h.apart
           (all-map (IsHeldIn before) (IsBelow held.paused.way.txn.0) helds (below-next before held.paused.way.txn.0 kept.0) h.each);
       begun = inr (begun-here before now asking held.paused low high adds kept.0 kept.1);
@@ -128,13 +122,9 @@ let-go-held before name helds h = record {
   begun = let-go-begun before name helds h.begun;
 }
 
-pub let-go-one : (before : List Entry) (name : List ℕ) (helds : List Held) (paused : Paused) → AreHeld before helds → paused_in name helds ≡ Some paused
-    → IsHeldBySome before paused
-let-go-one before name helds paused h found = all-found (IsHeldBySome before) name helds paused h.each found
-
 pub let-go-true : (before : List Entry) (name : List ℕ) (helds : List Held) (paused : Paused) → paused_in name helds ≡ Some paused
-    → AllByRecursion (IsTrulyHeldIn before) helds → IsTrulyHeld before paused
-let-go-true before name helds paused found truly = all-found (IsTrulyHeld before) name helds paused truly found
+    → AllByRecursion (IsTrulyHeldIn before) helds → StandsTruly before paused
+let-go-true before name helds paused found truly = all-found (StandsTruly before) name helds paused truly found
 
 -- one is held, so that no transaction is lost any more
 some-begun : (before : List Entry) (name : List ℕ) (helds : List Held) (paused : Paused) → paused_in name helds ≡ Some paused
@@ -199,6 +189,7 @@ module _ (low high : ℕ) (before now : List Entry) (waiting : List Waiting) (st
           ended = ended;
           answered = w.answered;
         };
+        answered_then = w.answered;
         in_order = w.in_order;
       });
       waiting_same = refl;
@@ -237,24 +228,37 @@ record IsQuiet (txn : ℕ) (added : List Entry) : Type 0 where
   of_it : AreOf txn added
   undamaged : AllByRecursion IsUndamaged added
 
-abbrev started : ℕ → List Entry
-started txn = entry.Start (record { 0 = txn }) 0 ∷ []
-
-abbrev given-id : ℕ → TableId → WriteId → List Entry
-given-id txn table write = entry.Start (record { 0 = txn }) 0 ∷ entry.Given (record { 0 = txn }) table write ∷ []
-
-quiet-start : (txn : ℕ) (added : List Entry) → added ≡ started txn → IsQuiet txn added
+quiet-start : (txn : ℕ) (added : List Entry) → added ≡ starting txn ∷ [] → IsQuiet txn added
 quiet-start txn added is = subst (IsQuiet txn) (sym is) (record { of_it = (refl, tt); undamaged = (tt, tt) })
 
-quiet-id : (txn : ℕ) (added : List Entry) (table : TableId) (write : WriteId) → added ≡ given-id txn table write → IsQuiet txn added
-quiet-id txn added table write is = subst (IsQuiet txn) (sym is) (record { of_it = (refl, (refl, tt)); undamaged = (tt, (tt, tt)) })
+-- the aborts that it asks for are its own entries
+asks-quiet : (txn : ℕ) (asks : List Entry) → AllByRecursion (IsAskBy txn) asks → IsQuiet txn asks
+asks-quiet txn [] all = record { of_it = tt; undamaged = tt }
+asks-quiet txn (event ∷ asks) all =
+    let rest : IsQuiet txn asks = asks-quiet txn asks all.1 in
+    record {
+      of_it = (subst (IsOf txn) (sym all.0.event_is) refl, rest.of_it);
+      undamaged = (subst IsUndamaged (sym all.0.event_is) tt, rest.undamaged);
+    }
+
+id-quiet : (txn : ℕ) (ids : List Entry) → AddsNoneOrId txn ids → IsQuiet txn ids
+id-quiet txn ids (inl none) = subst (IsQuiet txn) (sym none) (record { of_it = tt; undamaged = tt })
+id-quiet txn ids (inr id) = subst (IsQuiet txn) (sym id.2) (record { of_it = (refl, tt); undamaged = (tt, tt) })
+
+quiet-ready : (txn : ℕ) (added : List Entry) → HasReadied txn added → IsQuiet txn added
+quiet-ready txn added h =
+    let asks : IsQuiet txn h.0 = asks-quiet txn h.0 h.2 in
+    let ids : IsQuiet txn h.1 = id-quiet txn h.1 h.3 in
+    subst (IsQuiet txn) (sym h.4) (record {
+      of_it = (refl, all-append (IsOf txn) h.0 h.1 asks.of_it ids.of_it);
+      undamaged = (tt, all-append IsUndamaged h.0 h.1 asks.undamaged ids.undamaged);
+    })
 
 quiet : (hold : Option Stage) (txn : ℕ) (added : List Entry) → HoldsAt hold txn added → IsQuiet txn added
 quiet None txn added h = absurd h
 quiet (Some stage.Start) txn added h = quiet-start txn added h
 quiet (Some stage.Read) txn added h = quiet-start txn added h
-quiet (Some stage.Commit) txn added (inl h) = quiet-start txn added h
-quiet (Some stage.Commit) txn added (inr h) = quiet-id txn added h.0 h.1 h.2
+quiet (Some stage.Commit) txn added h = quiet-ready txn added h
 quiet (Some stage.Taken) txn added h = absurd h
 quiet (Some stage.Replied) txn added h = absurd h
 
@@ -325,7 +329,7 @@ acts-finished low high before now helds session paused reply refused ended fit h
             (not-lost (state_of before) paused.way.txn.0 f.added unlost f.of_it (more-fits before f.added now f.book fit));
       };
       done = λ start behind.
-          subst (λ (o : Option Waiting). ReleasesOne start now (record { book = before; waiting = map waiting_of helds })
+          subst (λ (o : Option Waiting). ReleasesOne (from_to start now) (record { book = before; waiting = map waiting_of helds })
           (record { book = now; waiting = map waiting_of (held_without name helds) }) name o reply refused) (sym waits.is) (
             record {
               added = f.added;
@@ -334,6 +338,7 @@ acts-finished low high before now helds session paused reply refused ended fit h
               own = all-waiting (IsLater start) name (map waiting_of helds) waits.waiting behind.later waits.is;
               ended = ended;
               answered = subst (λ (txn : ℕ). HasReplied now txn reply refused ended) (sym waits.txn_is) f.answered;
+              answered_then = subst (λ (txn : ℕ). HasReplied now txn reply refused ended) (sym waits.txn_is) f.answered;
               in_order = f.in_order;
             },
             waits-without name helds,
@@ -347,7 +352,7 @@ pub acts-nothing : (low high : ℕ) (book : List Entry) (helds : List Held) (ses
 acts-nothing low high book helds session none = record {
   grows = grows-none low high book;
   done = λ start behind.
-      subst (λ (o : Option Waiting). ReleasesOne start book (record { book = book; waiting = map waiting_of helds })
+      subst (λ (o : Option Waiting). ReleasesOne (from_to start book) (record { book = book; waiting = map waiting_of helds })
       (record { book = book; waiting = map waiting_of (held_without session.name helds) }) session.name o [] false) (sym (none-waits session.name helds none))
       (ap (λ (hs : List Held). record { book = book; waiting = map waiting_of hs }) (none-left session.name helds none), refl, refl);
 }
@@ -358,6 +363,15 @@ none-of : (number : Option ℕ) → AreOfSome number []
 none-of None = refl
 none-of (Some txn) = tt
 
+opens-none : (act : Action) → OpensOf act []
+opens-none (action.Announce session) = tt
+opens-none (action.Run statement) = tt
+opens-none (action.Release session) = tt
+
+no-ends : (number : Option ℕ) → AreNoEnds number []
+no-ends None = tt
+no-ends (Some txn) = tt
+
 -- before anything was done
 pub stops-before : (told : Option Store) (before : Standing) (act : Action) → Holds told before.book → Stops fault.NoMemory told before act before.book
 stops-before told before act holds = record {
@@ -366,27 +380,50 @@ stops-before told before act holds = record {
     book = sym (append-nil before.book);
     of_it = none-of (number_of before act);
     legal = record { fit = tt; truthful = tt };
-    unended = tt;
+    unended = no-ends (number_of before act);
+    opens = opens-none act;
   };
-  leaves = ([], inl (record { of_it = none-of (number_of before act); few = omega arith; fit = tt }), holds);
+  leaves = ([], inl (record { of_it = none-of (number_of before act); opens = tt; few = omega arith; fit = tt }), holds);
 }
 
 some-of : (number : Option ℕ) (txn : ℕ) (events : List Entry) → number ≡ Some txn → AreOf txn events → AreOfSome number events
 some-of number txn events is of_it = subst (λ (o : Option ℕ). AreOfSome o events) (sym is) of_it
 
+some-ends : (number : Option ℕ) (txn : ℕ) (events : List Entry) → number ≡ Some txn → AllByRecursion (IsNoEnd txn) events → AreNoEnds number events
+some-ends number txn events is unended = subst (λ (o : Option ℕ). AreNoEnds o events) (sym is) unended
+
+-- what opens none opens none but the action's
+none-opened : (act : Action) (event : Entry) → OpensNone event → IsOpenedFor act event
+none-opened act (entry.Opened txn session number text) none = absurd none
+none-opened act event none = tt
+
+all-opened : (act : Action) (events : List Entry) → AllByRecursion OpensNone events → AllByRecursion (IsOpenedFor act) events
+all-opened act [] none = tt
+all-opened act (event ∷ events) none = (none-opened act event none.0, all-opened act events none.1)
+
 -- in a statement
 pub stops-in : {D : Type 0} (told : D → Option Store) (txn : ℕ) (why : HouseFault) (before now : House D) (waiting : List Waiting) (act : Action)
-    → number_of (record { book = entries_of before; waiting = waiting }) act ≡ Some txn → HasStopped told txn why before now
+    → number_of (record { book = entries_of before; waiting = waiting }) act ≡ Some txn → (h : HasStopped told txn why before now) → OpensOf act h.added
     → Stops why (told now.shelf) (record { book = entries_of before; waiting = waiting }) act (entries_of now)
-stops-in told txn why before now waiting act is h = record {
+stops-in told txn why before now waiting act is h opens = record {
   halfway = record {
     added = h.added;
     book = h.book;
     of_it = some-of _ txn h.added is h.of_it;
     legal = h.legal;
-    unended = h.unended;
+    unended = some-ends _ txn h.added is h.unended;
+    opens = opens;
   };
-  leaves = (h.further, inl (record { of_it = some-of _ txn h.further is h.further_of_it; few = h.few; fit = h.fit }), h.leaves);
+  leaves = (
+    h.further,
+    inl (record {
+      of_it = some-of _ txn h.further is h.further_of_it;
+      opens = all-opened act h.further h.unopened;
+      few = h.few;
+      fit = h.fit;
+    }),
+    h.leaves,
+  );
 }
 
 -- or where it was to begin
@@ -400,16 +437,44 @@ begins-none why told statement standing now same fits leaves = record {
     of_it = tt;
     legal = record { fit = tt; truthful = tt };
     unended = tt;
+    opens = tt;
   };
   leaves = (beginning_of standing.book (asking_of statement), inr (record { same = same; fits = fits; further_is = refl }), leaves);
+}
+
+-- or where it was to be opened alone
+opening-none : (why : HouseFault) (told : Option Store) (statement : Statement) (book : List Entry) (waiting : List Waiting) (now : List Entry) → now ≡ book
+    → Fits profile (state_of book) (opening book (asking_of statement)) → Leaves why (opening book (asking_of statement) ∷ []) told now
+    → Stops why told (record { book = book; waiting = waiting }) (action.Run statement) now
+opening-none why told statement book waiting now same fits leaves = record {
+  halfway = record {
+    added = [];
+    book = same ∙ sym (append-nil book);
+    of_it = tt;
+    legal = record { fit = tt; truthful = tt };
+    unended = tt;
+    opens = tt;
+  };
+  leaves = (
+    opening book (asking_of statement) ∷ [],
+    inl (record {
+      of_it = (refl, tt);
+      opens = ((refl, refl, refl), tt);
+      few = omega arith;
+      fit = (subst (λ (b : List Entry). Fits profile (state_of b) (opening book (asking_of statement))) (sym same) fits, tt);
+    }),
+    leaves,
+  );
 }
 
 pub stops-taken : {D T : Type 0} (told : D → Option Store) (before now : House D) (waiting : List Waiting) (statement : Statement) (result : Result T HouseFault)
     → IfErr result (λ why. StopsTaken told (asking_of statement) why before now)
     → IfErr result (λ why. Stops why (told now.shelf) (record { book = entries_of before; waiting = waiting }) (action.Run statement) (entries_of now))
 stops-taken told before now waiting statement (Ok x) stops = tt
-stops-taken told before now waiting statement (Err why) (inl stopped) = stops-in told (next_number (entries_of before)) why before now waiting (action.Run statement) refl stopped
-stops-taken told before now waiting statement (Err why) (inr begins) =
+stops-taken told before now waiting statement (Err why) (inl stopped) = stops-in told (next_number (entries_of before)) why before now waiting (action.Run statement) refl stopped.0 stopped.1
+stops-taken told before now waiting statement (Err why) (inr (inr opens)) =
+    opening-none why (told now.shelf) statement (entries_of before) waiting (entries_of now) opens.book opens.fits opens.leaves
+stops-taken told before now waiting statement (Err why) (inr (inl begins)) =
     begins-none why (told now.shelf) statement (record { book = entries_of before; waiting = waiting }) (entries_of now) begins.book begins.fits begins.leaves
 
 -- what a call that failed leaves is what is handed on
@@ -461,7 +526,7 @@ replied-truly told before now helds helds' low high same start fits adds h truly
     (truly (told-stays told now before (sym start) is)))
 
 pub replied-acts : (before now : List Entry) (helds helds' : List Held) (low high : ℕ) (statement : Statement) (found : Taken) (reply : Reply)
-    → helds' ≡ helds → found ≡ taken.Ended (done.Replied reply) → AllFitting now → AddsOf (next_number before) low high before now
+    → helds' ≡ helds → found ≡ taken.Replied reply → AllFitting now → AddsOf (next_number before) low high before now
     → IsTakenAs before now (asking_of statement) statement.hold found
     → Acts low high (record { book = before; waiting = map waiting_of helds }) (record { book = now; waiting = map waiting_of helds' })
     (action.Run statement) reply.text reply.refused
@@ -488,7 +553,7 @@ kept-truly told before now helds helds' helds'' held low high statement found sa
     let others = truly-after (entries_of before) (entries_of now) helds (next_number (entries_of before)) low high fits adds (next-apart (entries_of before) helds h) (truly told_before) in
     subst (AllByRecursion (IsTrulyHeldIn (entries_of now))) (sym (one ∙ ap (λ (hs : List Held). hs ++ held ∷ []) same))
     (all-last (IsTrulyHeldIn (entries_of now)) helds held others
-    (subst (IsTakenAs (entries_of before) (entries_of now) (asking_of statement) statement.hold) found_is (takes told_before)).truly)
+    (inl (subst (IsTakenAs (entries_of before) (entries_of now) (asking_of statement) statement.hold) found_is (takes told_before)).truly))
 
 pub kept-acts : (before now : List Entry) (helds helds' helds'' : List Held) (held : Held) (low high : ℕ) (statement : Statement) (found : Taken) (reply : Reply)
     → helds' ≡ helds → helds'' ≡ helds' ++ held ∷ [] → found ≡ taken.Kept held.paused → held.session ≡ statement.session.name → reply ≡ record { text = []; refused = false; ended = None }
@@ -554,7 +619,7 @@ pub released-stops : {D : Type 0} (told : D → Option Store) (r : Result Reply 
     → IfErr r (λ why. Stops why (told now.shelf) (standing_of before helds) (action.Release session) (entries_of now))
 released-stops told r before now helds session paused found stopped =
     err-map r (λ why. HasStopped told paused.way.txn.0 why before now) (λ why. Stops why (told now.shelf) (standing_of before helds) (action.Release session) (entries_of now))
-    (λ why h. stops-in told paused.way.txn.0 why before now (map waiting_of helds) (action.Release session) (number-found (entries_of before) helds session paused found) h) stopped
+    (λ why h. stops-in told paused.way.txn.0 why before now (map waiting_of helds) (action.Release session) (number-found (entries_of before) helds session paused found) h tt) stopped
 
 -- ---- where none is held in the session
 

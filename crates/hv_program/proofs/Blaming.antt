@@ -1,5 +1,5 @@
 -- Why a run ends with a fault, and that it ends well where there is none.
-use Rattle.std.proofs.Common.{◌≡◌, ◌⊎◌, ℕ, ◌≤◌, ◌==◌, ◌||◌, Bool, false, true, IsTrue, IsSome, Result, Ok, Err, IfErr, IsErrAnd, Option, Some, None, List, [], ◌∷◌, refl, sym, ◌∙◌, subst, arith, inl, inr}
+use Rattle.std.proofs.Common.{◌≡◌, ◌⊎◌, ℕ, ◌≤◌, ◌==◌, ◌||◌, Bool, false, true, IsTrue, IsSome, Result, Ok, Err, IfErr, IsErrAnd, Option, Some, None, List, [], ◌∷◌, refl, sym, ap, ◌∙◌, subst, arith, inl, inr}
 use Rattle.std.proofs.lemmas.Bool.{eqb-true}
 use Rattle.hv_base.specs.Faults.{Rose}
 use Rattle.hv_shelf.specs.Disk.{Store}
@@ -7,13 +7,20 @@ use Rattle.hv_script.specs.Words.{run_of}
 use Rattle.hv_script.specs.Actions.{refused_at}
 use Rattle.hv_script.specs.declared.words.Command.{Command}
 use Rattle.hv_history.specs.Legal.{profile}
-use Rattle.hv_session.specs.hv_steps.specs.hv_acts.specs.hv_telling.specs.hv_house.specs.Booting.{IsBootStore, CanOpen}
-use Rattle.hv_session.specs.hv_steps.specs.hv_acts.specs.hv_telling.specs.hv_house.specs.declared.boot.BootFault.{BootFault}
-use Rattle.hv_session.specs.hv_steps.specs.hv_acts.specs.hv_telling.specs.hv_house.specs.declared.boot.BootFault.TheVariants as boot
+use Rattle.hv_session.specs.hv_steps.specs.hv_table_reader.specs.hv_acts.specs.declared.told.ToldHouse.{ToldHouse}
+use Rattle.hv_session.specs.hv_steps.specs.hv_table_reader.specs.hv_acts.specs.Told.{seen_in}
+use Rattle.hv_session.specs.hv_steps.specs.hv_table_reader.specs.hv_acts.specs.hv_telling.specs.hv_house.specs.declared.house.House.{House}
+use Rattle.hv_session.specs.hv_steps.specs.hv_table_reader.specs.hv_acts.specs.hv_telling.specs.hv_house.specs.declared.fault.HouseFault.{HouseFault}
+use Rattle.hv_session.specs.hv_steps.specs.hv_table_reader.specs.hv_acts.specs.hv_telling.specs.hv_house.specs.Faults.{EndsRun}
+use Rattle.hv_session.specs.hv_steps.specs.hv_table_reader.specs.hv_acts.specs.hv_telling.specs.hv_house.specs.Housed.{ShutsHard}
+use Rattle.hv_session.specs.hv_steps.specs.hv_table_reader.specs.hv_acts.specs.hv_telling.specs.hv_house.specs.Steps.{IsOpenedOver}
+use Rattle.hv_session.specs.hv_steps.specs.hv_table_reader.specs.hv_acts.specs.hv_telling.specs.hv_house.specs.Booting.{IsBootStore, CanOpen}
+use Rattle.hv_session.specs.hv_steps.specs.hv_table_reader.specs.hv_acts.specs.hv_telling.specs.hv_house.specs.declared.boot.BootFault.{BootFault}
+use Rattle.hv_session.specs.hv_steps.specs.hv_table_reader.specs.hv_acts.specs.hv_telling.specs.hv_house.specs.declared.boot.BootFault.TheVariants as boot
 use Rattle.hv_program.specs.declared.stop.Stop.{Stop}
 use Rattle.hv_program.specs.declared.stop.Stop.TheVariants as stop
-use Rattle.hv_session.specs.hv_steps.specs.hv_acts.specs.hv_telling.specs.hv_house.specs.declared.fault.HouseFault.TheVariants as fault
-use Rattle.hv_program.specs.Stops.{status_of_stop, Blames}
+use Rattle.hv_session.specs.hv_steps.specs.hv_table_reader.specs.hv_acts.specs.hv_telling.specs.hv_house.specs.declared.fault.HouseFault.TheVariants as fault
+use Rattle.hv_program.specs.Stops.{stop_of, status_of_stop, Blames, IsShutFor, ShutsFor}
 use Rattle.hv_program.specs.Headline.{Outside}
 use Rattle.hv_program.specs.Refused.{is_one_of, Refuses}
 use Rattle.hv_program.specs.Serving.{ran_status, BlamesOf, IsSaid, IsSaidOrNot}
@@ -57,13 +64,61 @@ blames-store status sink store store' why is same rose = record { sink_failed = 
 pub blames-memory : (status sink store store' : ℕ) → status ≡ 7 → BlamesOf status sink sink store store'
 blames-memory status sink store store' is = blames-none status sink sink store store' (λ e. omega (arith, is, e)) (λ e. omega (arith, is, e))
 
+-- ---- the hard count
+
+-- an action stopped the run
+pub shut-passed : {D : Type 0} (now : ToldHouse D) (why : HouseFault) (r : Result Bool Stop) → IsErrAnd r (λ e. e ≡ stop_of why) → EndsRun why → IsShutFor now why
+    → IfErr r (ShutsFor now)
+shut-passed now fault.Store r err ends shut = passed_up r stop.Store (ShutsFor now) err shut
+shut-passed now fault.NoMemory r err ends shut = passed_up r stop.NoMemory (ShutsFor now) err tt
+shut-passed now (fault.Failed count) r err ends shut = absurd ends
+
+hard-ran : {D : Type 0} (hard : D → ℕ) (now : ToldHouse D) (ran : Result Bool Stop) → IfErr ran (ShutsFor now) → ShutsHard hard (seen_in now) → ran_status ran ≡ 5
+    → Rose (hard now.house.start.value) (hard now.house.shelf)
+hard-ran hard now (Ok false) shut kept e = let never : 0 ≡ 5 = e in absurd (omega (arith, never))
+hard-ran hard now (Ok true) shut kept e = let never : 1 ≡ 5 = e in absurd (omega (arith, never))
+hard-ran hard now (Err stop.Source) shut kept e = let never : 3 ≡ 5 = e in absurd (omega (arith, never))
+hard-ran hard now (Err stop.Sink) shut kept e = let never : 4 ≡ 5 = e in absurd (omega (arith, never))
+hard-ran hard now (Err stop.Store) shut kept e = kept.rose shut
+hard-ran hard now (Err stop.NoMemory) shut kept e = let never : 7 ≡ 5 = e in absurd (omega (arith, never))
+
+pub hard-run : {D : Type 0} (hard : D → ℕ) (shelf : D) (house : House D) (now : ToldHouse D) (ran : Result Bool Stop) (status last : ℕ) → status ≡ ran_status ran
+    → last ≡ hard now.house.shelf → IsOpenedOver shelf house → now.house.start ≡ house.start → IfErr ran (ShutsFor now) → ShutsHard hard (seen_in now)
+    → status ≡ 5 → Rose (hard shelf) last
+hard-run {D = D} hard shelf house now ran status last status_is last_is over start shut kept e =
+    let opened : now.house.start.value ≡ shelf = ap (λ s. s.value) start ∙ over.start in
+    subst (Rose (hard shelf)) (sym last_is)
+    (subst (λ (d : D). Rose (hard d) (hard now.house.shelf)) opened (hard-ran hard now ran shut kept (sym status_is ∙ e)))
+
+-- an opening did
+pub hard-store : (status first last : ℕ) (why : BootFault) → why ≡ boot.Store → (IsBootStore why → Rose first last) → status ≡ 5 → Rose first last
+hard-store status first last why same rose e = rose (subst IsBootStore (sym same) tt)
+
+pub hard-memory : (status first last : ℕ) → status ≡ 7 → status ≡ 5 → Rose first last
+hard-memory status first last is e = absurd (omega (arith, is, e))
+
+pub hard-said : (status wanted first last : ℕ) (line : List ℕ) (a b : Option (List ℕ)) (sink sink' : ℕ) → (wanted ≡ 5 → ⊥) → IsSaid wanted line a b sink sink' status
+    → status ≡ 5 → Rose first last
+hard-said status wanted first last line a b sink sink' not_it (inl said) e = absurd (not_it (sym said.0 ∙ e))
+hard-said status wanted first last line a b sink sink' not_it (inr cut) e = absurd (omega (arith, cut.0, e))
+
+pub hard-said-or-not : (status wanted first last : ℕ) (line : List ℕ) (a b : Option (List ℕ)) (sink sink' : ℕ) → (wanted ≡ 5 → ⊥)
+    → IsSaidOrNot wanted line a b sink sink' status → status ≡ 5 → Rose first last
+hard-said-or-not status wanted first last line a b sink sink' not_it (inl said) e = hard-said status wanted first last line a b sink sink' not_it said e
+hard-said-or-not status wanted first last line a b sink sink' not_it (inr unsaid) e = absurd (omega (arith, unsaid.0, e))
+
 -- ---- the whole
 
 causes-none : (before now : Counts) (n : ℕ) → (n ≡ 3 → ⊥) → (n ≡ 4 → ⊥) → (n ≡ 5 → ⊥) → HasCauses before now n
-causes-none before now n three four five = record { source = λ e. absurd (three e); sink = λ e. absurd (four e); store = λ e. absurd (five e) }
+causes-none before now n three four five = record { source = λ e. absurd (three e); sink = λ e. absurd (four e); store = λ e. absurd (five e); hard = λ e. absurd (five e) }
 
 causes-cut : (before now : Counts) (n : ℕ) → n ≡ 4 → Rose before.sink now.sink → HasCauses before now n
-causes-cut before now n is rose = record { source = λ e. absurd (omega (arith, is, e)); sink = λ e. rose; store = λ e. absurd (omega (arith, is, e)) }
+causes-cut before now n is rose = record {
+  source = λ e. absurd (omega (arith, is, e));
+  sink = λ e. rose;
+  store = λ e. absurd (omega (arith, is, e));
+  hard = λ e. absurd (omega (arith, is, e));
+}
 
 pub causes-said : (before now : Counts) (status wanted : ℕ) (line : List ℕ) (a b : Option (List ℕ)) → (wanted ≡ 3 → ⊥) → (wanted ≡ 4 → ⊥) → (wanted ≡ 5 → ⊥)
     → IsSaid wanted line a b before.sink now.sink status → HasCauses before now status
@@ -83,17 +138,23 @@ causes-script before now status line a b (inr unsaid) = causes-memory before now
 
 pub causes-read : (before now : Counts) (status : ℕ) (why : Stop) → status ≡ status_of_stop why → IsTrue (is_one_of (3 ∷ 7 ∷ []) (status_of_stop why))
     → (why ≡ stop.Source → Rose before.source now.source) → HasCauses before now status
-causes-read before now status stop.Source is h rose = record { source = λ e. rose refl; sink = λ e. absurd (omega (arith, is, e)); store = λ e. absurd (omega (arith, is, e)) }
+causes-read before now status stop.Source is h rose = record {
+  source = λ e. rose refl;
+  sink = λ e. absurd (omega (arith, is, e));
+  store = λ e. absurd (omega (arith, is, e));
+  hard = λ e. absurd (omega (arith, is, e));
+}
 causes-read before now status stop.Sink is h rose = cc
 causes-read before now status stop.Store is h rose = cc
 causes-read before now status stop.NoMemory is h rose = causes-memory before now status is
 
 pub causes-served : (before now : Counts) (status : ℕ) → IsTrue (is_one_of (0 ∷ 1 ∷ 4 ∷ 5 ∷ 6 ∷ 7 ∷ 9 ∷ []) status) → BlamesOf status before.sink now.sink before.store now.store
-    → HasCauses before now status
-causes-served before now status only h = record {
+    → (status ≡ 5 → Rose before.hard now.hard) → HasCauses before now status
+causes-served before now status only h hard = record {
   source = λ e. absurd (let wrong : IsTrue (is_one_of (0 ∷ 1 ∷ 4 ∷ 5 ∷ 6 ∷ 7 ∷ 9 ∷ []) 3) = subst (λ n. IsTrue (is_one_of (0 ∷ 1 ∷ 4 ∷ 5 ∷ 6 ∷ 7 ∷ 9 ∷ []) n)) e only in cc);
   sink = h.sink_failed;
   store = h.store_failed;
+  hard = hard;
 }
 
 -- ---- where no device failed

@@ -10,13 +10,14 @@ use Rattle.hv_script.specs.declared.actions.Action.{Action}
 use Rattle.hv_script.specs.declared.actions.Action.TheVariants as action
 use Rattle.hv_stands.specs.Running.{Asking, next_number}
 use Rattle.hv_session.specs.hv_steps.proofs.Replied.{replies-stay}
+use Rattle.hv_program.specs.Change.{from_to}
 use Rattle.hv_program.specs.Doing.{Waiting, Standing, is_session, waiting_in, without, asking_of, IsAnswerIn, RepliesAtOnce, IsHeldNow, ReleasesOne, IsDone, AreDone}
 use Rattle.hv_program.specs.Running.{IsLater}
 
 -- ---- as the book goes on
 
 answer-more : (start book more : List Entry) (asking : Asking) (txn : ℕ) (reply : List ℕ) (refused : Bool)
-    → IsAnswerIn start book asking txn reply refused → IsAnswerIn start (book ++ more) asking txn reply refused
+    → IsAnswerIn (from_to start book) asking txn reply refused → IsAnswerIn (from_to start (book ++ more)) asking txn reply refused
 answer-more start book more asking txn reply refused h = record {
   own = h.own;
   was_opened = Contains-append_left book more _ h.was_opened;
@@ -25,7 +26,8 @@ answer-more start book more asking txn reply refused h = record {
 }
 
 at-once-more : (start book more before now : List Entry) (asking : Asking) (hold : Option Stage) (reply : List ℕ) (refused : Bool)
-    → RepliesAtOnce start book before now asking hold reply refused → RepliesAtOnce start (book ++ more) before now asking hold reply refused
+    → RepliesAtOnce (from_to start book) before now asking hold reply refused → RepliesAtOnce (from_to start (book ++ more)) before now asking hold reply refused
+unfolding answer-more
 at-once-more start book more before now asking hold reply refused (inl h) = inl (record {
   added = h.added;
   goes = h.goes;
@@ -35,12 +37,13 @@ at-once-more start book more before now asking hold reply refused (inl h) = inl 
   of_it = h.of_it;
   in_time = h.in_time;
   is_answer = answer-more start book more asking (next_number before) reply refused h.is_answer;
+  answered_then = h.answered_then;
   in_order = h.in_order;
 })
 at-once-more start book more before now asking hold reply refused (inr h) = inr h
 
 held-more : (start book more before now : List Entry) (asking : Asking) (hold : Option Stage)
-    → IsHeldNow start book before now asking hold → IsHeldNow start (book ++ more) before now asking hold
+    → IsHeldNow (from_to start book) before now asking hold → IsHeldNow (from_to start (book ++ more)) before now asking hold
 held-more start book more before now asking hold h = record {
   added = h.added;
   goes = h.goes;
@@ -55,7 +58,7 @@ held-more start book more before now asking hold h = record {
 }
 
 released-more : (start book more : List Entry) (before now : Standing) (name : List ℕ) (found : Option Waiting) (output : List ℕ) (refused : Bool)
-    → ReleasesOne start book before now name found output refused → ReleasesOne start (book ++ more) before now name found output refused
+    → ReleasesOne (from_to start book) before now name found output refused → ReleasesOne (from_to start (book ++ more)) before now name found output refused
 released-more start book more before now name None output refused h = h
 released-more start book more before now name (Some waiting) output refused h = (
   record {
@@ -65,13 +68,14 @@ released-more start book more before now name (Some waiting) output refused h = 
     own = h.0.own;
     ended = h.0.ended;
     answered = replies-stay book more waiting.txn output refused h.0.ended h.0.answered;
+    answered_then = h.0.answered_then;
     in_order = h.0.in_order;
   },
   h.1,
 )
 
 done-more : (start book more : List Entry) (before now : Standing) (act : Action) (output : List ℕ) (refused : Bool)
-    → IsDone start book before now act output refused → IsDone start (book ++ more) before now act output refused
+    → IsDone (from_to start book) before now act output refused → IsDone (from_to start (book ++ more)) before now act output refused
 done-more start book more before now (action.Announce session) output refused h = h
 done-more start book more before now (action.Run statement) output refused (inl h) = inl (record {
   goes = at-once-more start book more before.book now.book (asking_of statement) statement.hold output refused h.goes;
@@ -87,7 +91,7 @@ done-more start book more before now (action.Release session) output refused h =
     released-more start book more before now session.name (waiting_in session.name before.waiting) output refused h
 
 pub are-done-more : (start book more : List Entry) (before now : Standing) (actions : List Action) (output : List ℕ) (refused : Bool)
-    → AreDone start book before now actions output refused → AreDone start (book ++ more) before now actions output refused
+    → AreDone (from_to start book) before now actions output refused → AreDone (from_to start (book ++ more)) before now actions output refused
 are-done-more start book more before now [] output refused h = h
 are-done-more start book more before now (act ∷ actions) output refused h =
     (h.0, h.1, h.2, h.3, h.4, done-more start book more before h.0 act h.1 h.3 h.5, are-done-more start book more h.0 now actions h.2 h.4 h.6, h.7, h.8)
@@ -95,10 +99,10 @@ are-done-more start book more before now (act ∷ actions) output refused h =
 -- ---- one action more
 
 pub are-done-then : (start book : List Entry) (a b c : Standing) (actions : List Action) (output : List ℕ) (refused : Bool) (act : Action) (reply : List ℕ) (this : Bool)
-    → AreDone start book a b actions output refused → IsDone start book b c act reply this
-    → AreDone start book a c (actions ++ act ∷ []) (output ++ reply) (refused || this)
+    → AreDone (from_to start book) a b actions output refused → IsDone (from_to start book) b c act reply this
+    → AreDone (from_to start book) a c (actions ++ act ∷ []) (output ++ reply) (refused || this)
 are-done-then start book a b c [] output refused act reply this h d =
-    let here : IsDone start book a c act reply this = subst (λ (x : Standing). IsDone start book x c act reply this) h.0 d in
+    let here : IsDone (from_to start book) a c act reply this = subst (λ (x : Standing). IsDone (from_to start book) x c act reply this) h.0 d in
     (c, reply, [], this, false, here, (refl, refl, refl), ap (λ o. o ++ reply) h.1 ∙ sym (append-nil reply), ap (λ x. x || this) h.2 ∙ sym (or-false this))
 are-done-then start book a b c (first ∷ actions) output refused act reply this h d = (
   h.0,
@@ -128,14 +132,14 @@ all-without P name [] all = tt
 all-without P name (first ∷ ws) all = kept-by P (is_session name first) first ws (without name ws) all.1 all.0 (all-without P name ws all.1)
 
 later-released : (start book : List Entry) (before now : Standing) (name : List ℕ) (found : Option Waiting) (output : List ℕ) (refused : Bool)
-    → AllByRecursion (IsLater start) before.waiting → ReleasesOne start book before now name found output refused
+    → AllByRecursion (IsLater start) before.waiting → ReleasesOne (from_to start book) before now name found output refused
     → AllByRecursion (IsLater start) now.waiting
 later-released start book before now name None output refused all h = subst (λ (s : Standing). AllByRecursion (IsLater start) s.waiting) (sym h.0) all
 later-released start book before now name (Some waiting) output refused all h =
     subst (AllByRecursion (IsLater start)) (sym h.1) (all-without (IsLater start) name before.waiting all)
 
 pub later-done : (start book : List Entry) (before now : Standing) (act : Action) (output : List ℕ) (refused : Bool)
-    → AllByRecursion (IsLater start) before.waiting → IsDone start book before now act output refused
+    → AllByRecursion (IsLater start) before.waiting → IsDone (from_to start book) before now act output refused
     → AllByRecursion (IsLater start) now.waiting
 later-done start book before now (action.Announce session) output refused all h = subst (λ (s : Standing). AllByRecursion (IsLater start) s.waiting) (sym h.0) all
 later-done start book before now (action.Run statement) output refused all (inl h) = subst (AllByRecursion (IsLater start)) (sym h.waiting_same) all

@@ -9,31 +9,32 @@ use Rattle.hv_history.specs.Journal.{Reads, IsJournal}
 use Rattle.hv_base.specs.Sink.{Gains, GainsPart}
 use Rattle.hv_journal.specs.Appending.{Holds, KeepsTree}
 use Rattle.hv_script.specs.declared.actions.Action.{Action}
-use Rattle.hv_session.specs.hv_steps.specs.hv_acts.specs.hv_telling.specs.hv_house.specs.declared.house.House.{House}
-use Rattle.hv_session.specs.hv_steps.specs.hv_acts.specs.hv_telling.specs.hv_house.specs.House.{entries_of, IsFaithful}
-use Rattle.hv_session.specs.hv_steps.specs.hv_acts.specs.hv_telling.specs.hv_house.specs.Steps.{IsOpenedOver}
-use Rattle.hv_session.specs.hv_steps.specs.hv_acts.specs.hv_telling.specs.hv_house.specs.declared.fault.HouseFault.{HouseFault}
-use Rattle.hv_session.specs.hv_steps.specs.hv_acts.specs.hv_telling.specs.hv_house.specs.declared.fault.HouseFault.TheVariants as fault
-use Rattle.hv_session.specs.hv_steps.specs.hv_acts.specs.hv_telling.specs.hv_house.specs.declared.boot.BootFault.{BootFault}
-use Rattle.hv_session.specs.hv_steps.specs.hv_acts.specs.hv_telling.specs.hv_house.specs.declared.boot.BootFault.TheVariants as boot
-use Rattle.hv_session.specs.hv_steps.specs.hv_acts.specs.hv_telling.specs.hv_house.specs.Booting.{opening_of, opening_entries, OpensTo, Opens, StopsOpening, IsCutOpening, NotesWithRoom, StopsWithRoom, HasFullBook}
+use Rattle.hv_session.specs.hv_steps.specs.hv_table_reader.specs.hv_acts.specs.hv_telling.specs.hv_house.specs.declared.house.House.{House}
+use Rattle.hv_session.specs.hv_steps.specs.hv_table_reader.specs.hv_acts.specs.hv_telling.specs.hv_house.specs.House.{entries_of, IsFaithful}
+use Rattle.hv_session.specs.hv_steps.specs.hv_table_reader.specs.hv_acts.specs.hv_telling.specs.hv_house.specs.Steps.{IsOpenedOver}
+use Rattle.hv_session.specs.hv_steps.specs.hv_table_reader.specs.hv_acts.specs.hv_telling.specs.hv_house.specs.declared.fault.HouseFault.{HouseFault}
+use Rattle.hv_session.specs.hv_steps.specs.hv_table_reader.specs.hv_acts.specs.hv_telling.specs.hv_house.specs.declared.fault.HouseFault.TheVariants as fault
+use Rattle.hv_session.specs.hv_steps.specs.hv_table_reader.specs.hv_acts.specs.hv_telling.specs.hv_house.specs.declared.boot.BootFault.{BootFault}
+use Rattle.hv_session.specs.hv_steps.specs.hv_table_reader.specs.hv_acts.specs.hv_telling.specs.hv_house.specs.declared.boot.BootFault.TheVariants as boot
+use Rattle.hv_session.specs.hv_steps.specs.hv_table_reader.specs.hv_acts.specs.hv_telling.specs.hv_house.specs.Booting.{opening_of, opening_entries, OpensTo, Opens, StopsOpening, IsCutOpening, NotesWithRoom, StopsWithRoom, HasFullBook}
 use Rattle.hv_recovery.proofs.Books.{is_once as one-journal}
-use Rattle.hv_session.specs.hv_steps.specs.hv_acts.specs.hv_telling.specs.hv_house.proofs.Boots.{reads-journal}
+use Rattle.hv_session.specs.hv_steps.specs.hv_table_reader.specs.hv_acts.specs.hv_telling.specs.hv_house.proofs.Boots.{reads-journal}
 use Rattle.hv_recovery.specs.Recovery.{IsJournalOf}
-use Rattle.hv_session.specs.hv_steps.specs.hv_acts.specs.hv_telling.specs.Telling.{IsWhole, IsToldHouse, OpensLater}
-use Rattle.hv_session.specs.hv_steps.specs.hv_acts.specs.hv_telling.proofs.Told.{told-stays, whole-shown, found-some}
-use Rattle.hv_session.specs.hv_steps.specs.hv_acts.specs.hv_telling.proofs.Opening.{opened-is-told}
+use Rattle.hv_session.specs.hv_steps.specs.hv_table_reader.specs.hv_acts.specs.hv_telling.specs.Telling.{IsWhole, IsToldHouse, OpensLater}
+use Rattle.hv_session.specs.hv_steps.specs.hv_table_reader.specs.hv_acts.specs.hv_telling.proofs.Told.{told-stays, whole-shown, found-some}
+use Rattle.hv_session.specs.hv_steps.specs.hv_table_reader.specs.hv_acts.specs.hv_telling.proofs.Opening.{opened-is-told}
 use Rattle.hv_program.specs.declared.stop.Stop.{Stop}
 use Rattle.hv_program.specs.declared.stop.Stop.TheVariants as stop
 use Rattle.hv_program.specs.Stops.{status_of_stop}
 use Rattle.hv_program.specs.Lines.{full_line}
+use Rattle.hv_program.specs.Change.{Change, from_to}
 use Rattle.hv_program.specs.Doing.{Standing}
 use Rattle.hv_program.specs.Own.{Grows}
 use Rattle.hv_program.specs.Running.{PrintsAll, CutsOff, StopsIn, Halts, HasAll}
 use Rattle.hv_program.proofs.OwnEntries.{grows-wider}
 use Rattle.hv_program.proofs.CutOpenings.{cut-opens-later, later-behind}
 use Rattle.hv_program.specs.Results.{IsBookOf, HasBook, IsServed, IsCutOff, IsStopped, IsUnopened, ReadsTo, ReadsFurther, StopsForMemory, StopsForStore}
-use Rattle.hv_program.specs.Serving.{ran_status, IsCutFull, ServedOf, IsAfterServing, Serves, IsSaid}
+use Rattle.hv_program.specs.Serving.{ran_status, IsCutFull, ServedOf, BothTell, Serves, IsSaid}
 
 pub tells-still : {A : Type 0} (a b : Option A) (x : A) → StaysTold a b → a ≡ Some x → (y : A) × (b ≡ Some y)
 tells-still a (Some y) x stays e = (y, refl)
@@ -49,8 +50,8 @@ has-book : (book : List Entry) (store : Store) → Reads book store.journal → 
 has-book book store reads faithful = record { reads = reads; stands = faithful.stands }
 
 all-served : (low high : ℕ) (actions : List Action) (refused : Bool) (written now : List ℕ) (store : Store) (start book : List Entry)
-    → IsFaithful book store → Reads book store.journal → PrintsAll low high start book actions (Some written) (Some now) refused
-    → IsServed low high start actions written now store refused
+    → IsFaithful book store → Reads book store.journal → PrintsAll (from_to low high) start book actions (from_to (Some written) (Some now)) refused
+    → IsServed (from_to low high) start actions (from_to written now) store refused
 all-served low high actions refused written now store start book faithful reads h = record {
   last = record { book = book; waiting = h.0 };
   is_book = book-of low high start book faithful.legal h.1.grows;
@@ -61,8 +62,8 @@ all-served low high actions refused written now store start book faithful reads 
 }
 
 cut-off : (low high : ℕ) (actions : List Action) (written now : List ℕ) (store : Store) (start book : List Entry)
-    → HasAll book store → CutsOff low high start book actions (Some written) (Some now)
-    → IsCutOff low high start actions written now store
+    → HasAll book store → CutsOff (from_to low high) start book actions (from_to (Some written) (Some now))
+    → IsCutOff (from_to low high) start actions (from_to written now) store
 cut-off low high actions written now store start book has h = record {
   front = h.front;
   action = h.action;
@@ -82,8 +83,8 @@ cut-off low high actions written now store start book has h = record {
 }
 
 stopped : (why : HouseFault) (told : Option Store) (low high : ℕ) (actions : List Action) (written now : List ℕ) (start book : List Entry) (Keeps : Standing → Action → List Entry → Type 0)
-    → (h : StopsIn why told low high start book actions (Some written) (Some now)) → Keeps h.before h.action book → (after : Store) → OpensLater book after
-    → IsStopped low high start actions written now after Keeps
+    → (h : StopsIn why told (from_to low high) start book actions (from_to (Some written) (Some now))) → Keeps h.before h.action book → (after : Store) → OpensLater book after
+    → IsStopped (from_to low high) start actions (from_to written now) after Keeps
 stopped why told low high actions written now start book Keeps h keeps after opens = record {
   front = h.front;
   action = h.action;
@@ -103,7 +104,7 @@ stopped why told low high actions written now start book Keeps h keeps after ope
 
 -- ---- by the status
 
-served-zero : (low high : ℕ) (opened : List Entry) (actions : List Action) (written now : List ℕ) (before after : Store) → IsServed low high (opening_of opened) actions written now after false → ServedOf 0 low high opened actions written now before after
+served-zero : (low high : ℕ) (opened : List Entry) (actions : List Action) (written now : List ℕ) (before after : Store) → IsServed (from_to low high) (opening_of opened) actions (from_to written now) after false → ServedOf 0 (from_to low high) opened actions (from_to written now) (from_to before after)
 served-zero low high opened actions written now before after h = record {
   accepted = λ e. h;
   refused = λ e. absurd (omega (arith, e));
@@ -113,7 +114,7 @@ served-zero low high opened actions written now before after h = record {
   memory = λ e. absurd (omega (arith, e));
 }
 
-served-one : (low high : ℕ) (opened : List Entry) (actions : List Action) (written now : List ℕ) (before after : Store) → IsServed low high (opening_of opened) actions written now after true → ServedOf 1 low high opened actions written now before after
+served-one : (low high : ℕ) (opened : List Entry) (actions : List Action) (written now : List ℕ) (before after : Store) → IsServed (from_to low high) (opening_of opened) actions (from_to written now) after true → ServedOf 1 (from_to low high) opened actions (from_to written now) (from_to before after)
 served-one low high opened actions written now before after h = record {
   accepted = λ e. absurd (omega (arith, e));
   refused = λ e. h;
@@ -124,7 +125,7 @@ served-one low high opened actions written now before after h = record {
 }
 
 served-cut : (low high : ℕ) (opened : List Entry) (actions : List Action) (written now : List ℕ) (before after : Store)
-    → IsCutOff low high (opening_of opened) actions written now after ⊎ IsCutFull opened written now before after → ServedOf 4 low high opened actions written now before after
+    → IsCutOff (from_to low high) (opening_of opened) actions (from_to written now) after ⊎ IsCutFull opened (from_to written now) (from_to before after) → ServedOf 4 (from_to low high) opened actions (from_to written now) (from_to before after)
 served-cut low high opened actions written now before after h = record {
   accepted = λ e. absurd (omega (arith, e));
   refused = λ e. absurd (omega (arith, e));
@@ -134,10 +135,10 @@ served-cut low high opened actions written now before after h = record {
   memory = λ e. absurd (omega (arith, e));
 }
 
-served-four : (low high : ℕ) (opened : List Entry) (actions : List Action) (written now : List ℕ) (before after : Store) → IsCutOff low high (opening_of opened) actions written now after → ServedOf 4 low high opened actions written now before after
+served-four : (low high : ℕ) (opened : List Entry) (actions : List Action) (written now : List ℕ) (before after : Store) → IsCutOff (from_to low high) (opening_of opened) actions (from_to written now) after → ServedOf 4 (from_to low high) opened actions (from_to written now) (from_to before after)
 served-four low high opened actions written now before after h = served-cut low high opened actions written now before after (inl h)
 
-served-five : (low high : ℕ) (opened : List Entry) (actions : List Action) (written now : List ℕ) (before after : Store) → StopsForStore low high opened actions written now before after → ServedOf 5 low high opened actions written now before after
+served-five : (low high : ℕ) (opened : List Entry) (actions : List Action) (written now : List ℕ) (before after : Store) → StopsForStore (from_to low high) opened actions (from_to written now) (from_to before after) → ServedOf 5 (from_to low high) opened actions (from_to written now) (from_to before after)
 served-five low high opened actions written now before after h = record {
   accepted = λ e. absurd (omega (arith, e));
   refused = λ e. absurd (omega (arith, e));
@@ -147,7 +148,7 @@ served-five low high opened actions written now before after h = record {
   memory = λ e. absurd (omega (arith, e));
 }
 
-served-seven : (low high : ℕ) (opened : List Entry) (actions : List Action) (written now : List ℕ) (before after : Store) → StopsForMemory low high opened actions written now before after → ServedOf 7 low high opened actions written now before after
+served-seven : (low high : ℕ) (opened : List Entry) (actions : List Action) (written now : List ℕ) (before after : Store) → StopsForMemory (from_to low high) opened actions (from_to written now) (from_to before after) → ServedOf 7 (from_to low high) opened actions (from_to written now) (from_to before after)
 served-seven low high opened actions written now before after h = record {
   accepted = λ e. absurd (omega (arith, e));
   refused = λ e. absurd (omega (arith, e));
@@ -158,8 +159,8 @@ served-seven low high opened actions written now before after h = record {
 }
 
 served-ok : (low high : ℕ) (opened : List Entry) (actions : List Action) (refused : Bool) (written now : List ℕ) (before after : Store) (book : List Entry)
-    → Reads book after.journal → IsFaithful book after → PrintsAll low high (opening_of opened) book actions (Some written) (Some now) refused
-    → ServedOf (ran_status (Ok refused)) low high opened actions written now before after
+    → Reads book after.journal → IsFaithful book after → PrintsAll (from_to low high) (opening_of opened) book actions (from_to (Some written) (Some now)) refused
+    → ServedOf (ran_status (Ok refused)) (from_to low high) opened actions (from_to written now) (from_to before after)
 served-ok low high opened actions false written now before after book reads faithful prints =
     served-zero low high opened actions written now before after (all-served low high actions false written now after (opening_of opened) book faithful reads prints)
 served-ok low high opened actions true written now before after book reads faithful prints =
@@ -180,8 +181,9 @@ same-opened told store opened start at opens is =
 
 -- all were done
 ended-ok : {D : Type 0} (told : D → Option Store) (now : House D) (low high : ℕ) (opened : List Entry) (actions : List Action) (refused : Bool) (sink : Option (List ℕ)) (written n : List ℕ) (before : Store)
-    → IsWhole told now → IsToldHouse told now → sink ≡ Some n → PrintsAll low high (opening_of opened) (entries_of now) actions (Some written) (Some n) refused
-    → IsAfterServing (ran_status (Ok refused)) low high opened actions written before sink (told now.shelf)
+    → IsWhole told now → IsToldHouse told now → sink ≡ Some n → PrintsAll (from_to low high) (opening_of opened) (entries_of now) actions (from_to (Some written) (Some n)) refused
+    → BothTell sink (told now.shelf)
+    (λ wrote after. ServedOf (ran_status (Ok refused)) (from_to low high) opened actions (from_to written wrote) (from_to before after))
 ended-ok told now low high opened actions refused sink written n before whole is at_sink prints =
     let shown = whole-shown told now whole is in
     let reads : Reads (entries_of now) shown.0.journal = subst (λ (o : Option Store). Holds o (entries_of now)) shown.1 whole.ready.kept.reads in
@@ -195,8 +197,9 @@ ended-ok told now low high opened actions refused sink written n before whole is
 
 -- or the run stopped
 ended-err : (why : Stop) (low high : ℕ) (opened : List Entry) (actions : List Action) (sink : Option (List ℕ)) (told : Option Store) (written n : List ℕ) (before : Store) (book : List Entry)
-    → sink ≡ Some n → Halts why low high (opening_of opened) book actions (Some written) (Some n) told
-    → IsAfterServing (status_of_stop why) low high opened actions written before sink told
+    → sink ≡ Some n → Halts why (from_to low high) (opening_of opened) book actions (from_to (Some written) (Some n)) told
+    → BothTell sink told
+    (λ wrote after. ServedOf (status_of_stop why) (from_to low high) opened actions (from_to written wrote) (from_to before after))
 ended-err stop.Source low high opened actions sink told written n before book at_sink h = absurd h
 ended-err stop.Sink low high opened actions sink told written n before book at_sink h =
     let left = found-some (HasAll book) told h.1 in
@@ -209,8 +212,8 @@ ended-err stop.Sink low high opened actions sink told written n before book at_s
     }
 ended-err stop.Store low high opened actions sink told written n before book at_sink h =
     let left = found-some (OpensLater book) told h.1 in
-    let stops : StopsIn fault.Store (Some left.0) low high (opening_of opened) book actions (Some written) (Some n) =
-    subst (λ (o : Option Store). StopsIn fault.Store o low high (opening_of opened) book actions (Some written) (Some n)) left.1 h.0 in
+    let stops : StopsIn fault.Store (Some left.0) (from_to low high) (opening_of opened) book actions (from_to (Some written) (Some n)) =
+    subst (λ (o : Option Store). StopsIn fault.Store o (from_to low high) (opening_of opened) book actions (from_to (Some written) (Some n))) left.1 h.0 in
     record {
       now = n;
       store = left.0;
@@ -221,8 +224,8 @@ ended-err stop.Store low high opened actions sink told written n before book at_
     }
 ended-err stop.NoMemory low high opened actions sink told written n before book at_sink h =
     let left = found-some (OpensLater book) told h.1 in
-    let stops : StopsIn fault.NoMemory (Some left.0) low high (opening_of opened) book actions (Some written) (Some n) =
-    subst (λ (o : Option Store). StopsIn fault.NoMemory o low high (opening_of opened) book actions (Some written) (Some n)) left.1 h.0 in
+    let stops : StopsIn fault.NoMemory (Some left.0) (from_to low high) (opening_of opened) book actions (from_to (Some written) (Some n)) =
+    subst (λ (o : Option Store). StopsIn fault.NoMemory o (from_to low high) (opening_of opened) book actions (from_to (Some written) (Some n))) left.1 h.0 in
     record {
       now = n;
       store = left.0;
@@ -234,7 +237,7 @@ ended-err stop.NoMemory low high opened actions sink told written n before book 
 
 -- the counts may lie further apart
 prints-wider : (first low high : ℕ) (start book : List Entry) (actions : List Action) (sink sink' : Option (List ℕ)) (refused : Bool) → first ≤ low
-    → PrintsAll low high start book actions sink sink' refused → PrintsAll first high start book actions sink sink' refused
+    → PrintsAll (from_to low high) start book actions (from_to sink sink') refused → PrintsAll (from_to first high) start book actions (from_to sink sink') refused
 prints-wider first low high start book actions sink sink' refused below h = (
   h.0,
   record {
@@ -247,7 +250,7 @@ prints-wider first low high start book actions sink sink' refused below h = (
 )
 
 stops-wider : (why : HouseFault) (told : Option Store) (first low high : ℕ) (start book : List Entry) (actions : List Action) (sink sink' : Option (List ℕ)) → first ≤ low
-    → StopsIn why told low high start book actions sink sink' → StopsIn why told first high start book actions sink sink'
+    → StopsIn why told (from_to low high) start book actions (from_to sink sink') → StopsIn why told (from_to first high) start book actions (from_to sink sink')
 stops-wider why told first low high start book actions sink sink' below h = record {
   front = h.front;
   action = h.action;
@@ -264,7 +267,7 @@ stops-wider why told first low high start book actions sink sink' below h = reco
 }
 
 cuts-wider : (first low high : ℕ) (start book : List Entry) (actions : List Action) (sink sink' : Option (List ℕ)) → first ≤ low
-    → CutsOff low high start book actions sink sink' → CutsOff first high start book actions sink sink'
+    → CutsOff (from_to low high) start book actions (from_to sink sink') → CutsOff (from_to first high) start book actions (from_to sink sink')
 cuts-wider first low high start book actions sink sink' below h = record {
   front = h.front;
   action = h.action;
@@ -283,56 +286,58 @@ cuts-wider first low high start book actions sink sink' below h = record {
 }
 
 halts-wider : (why : Stop) (told : Option Store) (first low high : ℕ) (start book : List Entry) (actions : List Action) (sink sink' : Option (List ℕ)) → first ≤ low
-    → Halts why low high start book actions sink sink' told → Halts why first high start book actions sink sink' told
+    → Halts why (from_to low high) start book actions (from_to sink sink') told → Halts why (from_to first high) start book actions (from_to sink sink') told
 halts-wider stop.Source told first low high start book actions sink sink' below h = h
 halts-wider stop.Sink told first low high start book actions sink sink' below h = (cuts-wider first low high start book actions sink sink' below h.0, h.1)
 halts-wider stop.Store told first low high start book actions sink sink' below h = (stops-wider fault.Store told first low high start book actions sink sink' below h.0, h.1)
 halts-wider stop.NoMemory told first low high start book actions sink sink' below h = (stops-wider fault.NoMemory told first low high start book actions sink sink' below h.0, h.1)
 
 -- what a run of a house promised, from its start to its close
-record Promised {D : Type 0} (told : D → Option Store) (low high : ℕ) (ran : Result Bool Stop) (actions : List Action) (house now : House D) (sink sink' : Option (List ℕ)) : Type 0 where
+record Promised {D : Type 0} (told : D → Option Store) (faults : Change ℕ) (ran : Result Bool Stop) (actions : List Action) (house now : House D)
+    (sinks : Change (Option (List ℕ))) : Type 0 where
   start : now.start ≡ house.start
   whole : IfOk ran (λ _. IsWhole told now)
-  prints : IsToldHouse told house → IfOk ran (PrintsAll low high (entries_of house) (entries_of now) actions sink sink')
-  halts : IsToldHouse told house → IfErr ran (λ why. Halts why low high (entries_of house) (entries_of now) actions sink sink' (told now.shelf))
+  prints : IsToldHouse told house → IfOk ran (PrintsAll faults (entries_of house) (entries_of now) actions sinks)
+  halts : IsToldHouse told house → IfErr ran (λ why. Halts why faults (entries_of house) (entries_of now) actions sinks (told now.shelf))
 
 ended : {D : Type 0} (told : D → Option Store) (house now : House D) (first low high : ℕ) (opened : List Entry) (actions : List Action) (ran : Result Bool Stop) (sink sink' : Option (List ℕ))
     (written n : List ℕ) (before : Store) → first ≤ low → IsToldHouse told house → entries_of house ≡ opening_of opened → sink ≡ Some written → sink' ≡ Some n
-    → Promised told low high ran actions house now sink sink' → IsAfterServing (ran_status ran) first high opened actions written before sink' (told now.shelf)
+    → Promised told (from_to low high) ran actions house now (from_to sink sink') → BothTell sink' (told now.shelf)
+    (λ wrote after. ServedOf (ran_status ran) (from_to first high) opened actions (from_to written wrote) (from_to before after))
 ended told house now first low high opened actions (Ok refused) sink sink' written n before below is begun at_sink at_now h =
-    let prints : PrintsAll low high (opening_of opened) (entries_of now) actions (Some written) (Some n) refused =
-    subst (λ (a : Option (List ℕ)). PrintsAll low high (opening_of opened) (entries_of now) actions a (Some n) refused) at_sink
-    (subst (λ (a : Option (List ℕ)). PrintsAll low high (opening_of opened) (entries_of now) actions sink a refused) at_now
-    (subst (λ (book : List Entry). PrintsAll low high book (entries_of now) actions sink sink' refused) begun (h.prints is))) in
+    let prints : PrintsAll (from_to low high) (opening_of opened) (entries_of now) actions (from_to (Some written) (Some n)) refused =
+    subst (λ (a : Option (List ℕ)). PrintsAll (from_to low high) (opening_of opened) (entries_of now) actions (from_to a (Some n)) refused) at_sink
+    (subst (λ (a : Option (List ℕ)). PrintsAll (from_to low high) (opening_of opened) (entries_of now) actions (from_to sink a) refused) at_now
+    (subst (λ (book : List Entry). PrintsAll (from_to low high) book (entries_of now) actions (from_to sink sink') refused) begun (h.prints is))) in
     ended-ok told now first high opened actions refused sink' written n before h.whole (told-stays told house now h.start is) at_now
     (prints-wider first low high (opening_of opened) (entries_of now) actions (Some written) (Some n) refused below prints)
 ended told house now first low high opened actions (Err why) sink sink' written n before below is begun at_sink at_now h =
-    let halts : Halts why low high (opening_of opened) (entries_of now) actions (Some written) (Some n) (told now.shelf) =
-    subst (λ (a : Option (List ℕ)). Halts why low high (opening_of opened) (entries_of now) actions a (Some n) (told now.shelf)) at_sink
-    (subst (λ (a : Option (List ℕ)). Halts why low high (opening_of opened) (entries_of now) actions sink a (told now.shelf)) at_now
-    (subst (λ (book : List Entry). Halts why low high book (entries_of now) actions sink sink' (told now.shelf)) begun (h.halts is))) in
+    let halts : Halts why (from_to low high) (opening_of opened) (entries_of now) actions (from_to (Some written) (Some n)) (told now.shelf) =
+    subst (λ (a : Option (List ℕ)). Halts why (from_to low high) (opening_of opened) (entries_of now) actions (from_to a (Some n)) (told now.shelf)) at_sink
+    (subst (λ (a : Option (List ℕ)). Halts why (from_to low high) (opening_of opened) (entries_of now) actions (from_to sink a) (told now.shelf)) at_now
+    (subst (λ (book : List Entry). Halts why (from_to low high) book (entries_of now) actions (from_to sink sink') (told now.shelf)) begun (h.halts is))) in
     ended-err why first high opened actions sink' (told now.shelf) written n before (entries_of now) at_now
     (halts-wider why (told now.shelf) first low high (opening_of opened) (entries_of now) actions (Some written) (Some n) below halts)
 
 pub Serves-run : {D : Type 0} (told : D → Option Store) (shelf : D) (house now : House D) (status first low high last : ℕ) (actions given : List Action) (ran : Result Bool Stop)
     (sink sink' : Option (List ℕ)) (closed : Option Store) → status ≡ ran_status ran → first ≤ low → last ≡ high → given ≡ actions → closed ≡ told now.shelf
     → Opens profile (told shelf) (entries_of house) → IsOpenedOver shelf house → now.start ≡ house.start → IfOk ran (λ _. IsWhole told now)
-    → (IsToldHouse told house → IfOk ran (PrintsAll low high (entries_of house) (entries_of now) given sink sink'))
-    → (IsToldHouse told house → IfErr ran (λ why. Halts why low high (entries_of house) (entries_of now) given sink sink' (told now.shelf)))
-    → StaysTold sink sink' → Serves status first last actions sink sink' (told shelf) closed
+    → (IsToldHouse told house → IfOk ran (PrintsAll (from_to low high) (entries_of house) (entries_of now) given (from_to sink sink')))
+    → (IsToldHouse told house → IfErr ran (λ why. Halts why (from_to low high) (entries_of house) (entries_of now) given (from_to sink sink') (told now.shelf)))
+    → StaysTold sink sink' → Serves status (from_to first last) actions (from_to sink sink') (from_to (told shelf) closed)
 Serves-run told shelf house now status first low high last actions given ran sink sink' closed status_is below last_is actions_are closed_is is over start whole prints halts heard =
-    let there : Serves (ran_status ran) first high given sink sink' (told shelf) (told now.shelf) = λ written store opened at_sink at_told opens.
+    let there : Serves (ran_status ran) (from_to first high) given (from_to sink sink') (from_to (told shelf) (told now.shelf)) = λ written store opened at_sink at_told opens.
     let n = tells-still sink sink' written heard at_sink in
     ended told house now first low high opened given ran sink sink' written n.0 store below (opened-is-told told shelf house store opened over at_told opens)
     (same-opened (told shelf) store opened (entries_of house) at_told opens is) at_sink n.1
     (record { start = start; whole = whole; prints = prints; halts = halts }) in
-    let by_actions : Serves (ran_status ran) first high actions sink sink' (told shelf) (told now.shelf) =
-    subst (λ t. Serves (ran_status ran) first high t sink sink' (told shelf) (told now.shelf)) actions_are there in
-    let by_close : Serves (ran_status ran) first high actions sink sink' (told shelf) closed =
-    subst (λ w. Serves (ran_status ran) first high actions sink sink' (told shelf) w) (sym closed_is) by_actions in
-    let by_count : Serves (ran_status ran) first last actions sink sink' (told shelf) closed =
-    subst (λ m. Serves (ran_status ran) first m actions sink sink' (told shelf) closed) (sym last_is) by_close in
-    subst (λ m. Serves m first last actions sink sink' (told shelf) closed) (sym status_is) by_count
+    let by_actions : Serves (ran_status ran) (from_to first high) actions (from_to sink sink') (from_to (told shelf) (told now.shelf)) =
+    subst (λ t. Serves (ran_status ran) (from_to first high) t (from_to sink sink') (from_to (told shelf) (told now.shelf))) actions_are there in
+    let by_close : Serves (ran_status ran) (from_to first high) actions (from_to sink sink') (from_to (told shelf) closed) =
+    subst (λ w. Serves (ran_status ran) (from_to first high) actions (from_to sink sink') (from_to (told shelf) w)) (sym closed_is) by_actions in
+    let by_count : Serves (ran_status ran) (from_to first last) actions (from_to sink sink') (from_to (told shelf) closed) =
+    subst (λ m. Serves (ran_status ran) (from_to first m) actions (from_to sink sink') (from_to (told shelf) closed)) (sym last_is) by_close in
+    subst (λ m. Serves m (from_to first last) actions (from_to sink sink') (from_to (told shelf) closed)) (sym status_is) by_count
 
 -- ---- an opening that stopped
 
@@ -358,7 +363,7 @@ no-store before told none some = cc
 
 unopened-any : (book : List Entry) (written : List ℕ) (before : Store) (told told' : Option Store) (Keeps : List ℕ → Type 0) → told ≡ Some before → Moves KeepsTree told told'
     → ((after : Store) → after.tree ≡ before.tree → Keeps after.journal → NotesWithRoom profile book after.journal → OpensLater book after)
-    → Tells told' (λ s. Keeps s.journal) → Tells told' (λ s. NotesWithRoom profile book s.journal) → (after : Store) × (told' ≡ Some after) × IsUnopened book written written before after Keeps
+    → Tells told' (λ s. Keeps s.journal) → Tells told' (λ s. NotesWithRoom profile book s.journal) → (after : Store) × (told' ≡ Some after) × IsUnopened book (from_to written written) (from_to before after) Keeps
 unopened-any book written before None told' Keeps e tree later keeps room = absurd (no-store before None refl e)
 unopened-any book written before (Some s) None Keeps e tree later keeps room = absurd tree
 unopened-any book written before (Some s) (Some s') Keeps e tree later keeps room =
@@ -367,40 +372,40 @@ unopened-any book written before (Some s) (Some s') Keeps e tree later keeps roo
 
 unopened : (why : BootFault) (book : List Entry) (written : List ℕ) (before : Store) (told told' : Option Store) → told ≡ Some before → Moves KeepsTree told told'
     → OpensTo book before → Tells told' (λ s. IsCutOpening why book s.journal) → Tells told' (λ s. NotesWithRoom profile book s.journal)
-    → (after : Store) × (told' ≡ Some after) × IsUnopened book written written before after (IsCutOpening why book)
+    → (after : Store) × (told' ≡ Some after) × IsUnopened book (from_to written written) (from_to before after) (IsCutOpening why book)
 unopened why book written before told told' e tree opens keeps room =
     unopened-any book written before told told' (IsCutOpening why book) e tree
     (λ after same cut noted. cut-opens-later why book before after noted same opens.faithful cut) keeps room
 
 Serves-five : (low high : ℕ) (actions : List Action) (sink : Option (List ℕ)) (told told' : Option Store) → Moves KeepsTree told told'
-    → StopsOpening profile told told' boot.Store → StopsWithRoom profile told told' → Serves 5 low high actions sink sink told told'
+    → StopsOpening profile told told' boot.Store → StopsWithRoom profile told told' → Serves 5 (from_to low high) actions (from_to sink sink) (from_to told told')
 Serves-five low high actions sink told told' tree stops room = λ written store opened at_sink at_told opens.
     let there = unopened boot.Store opened written store told told' at_told tree opens (cut-opening boot.Store told told' store opened at_told opens stops)
     (cut-room told told' store opened at_told opens room) in
     record { now = written; store = there.0; sink_tells = at_sink; store_tells = there.1; served = served-five low high opened actions written written store there.0 (inr there.2) }
 
 Serves-seven : (low high : ℕ) (actions : List Action) (sink : Option (List ℕ)) (told told' : Option Store) → Moves KeepsTree told told'
-    → StopsOpening profile told told' boot.NoMemory → StopsWithRoom profile told told' → Serves 7 low high actions sink sink told told'
+    → StopsOpening profile told told' boot.NoMemory → StopsWithRoom profile told told' → Serves 7 (from_to low high) actions (from_to sink sink) (from_to told told')
 Serves-seven low high actions sink told told' tree stops room = λ written store opened at_sink at_told opens.
     let there = unopened boot.NoMemory opened written store told told' at_told tree opens (cut-opening boot.NoMemory told told' store opened at_told opens stops)
     (cut-room told told' store opened at_told opens room) in
     record { now = written; store = there.0; sink_tells = at_sink; store_tells = there.1; served = served-seven low high opened actions written written store there.0 (inr there.2) }
 
 pub Serves-store : (status low high : ℕ) (actions : List Action) (sink : Option (List ℕ)) (told told' : Option Store) (why : BootFault) → status ≡ 5 → why ≡ boot.Store → Moves KeepsTree told told'
-    → StopsOpening profile told told' why → StopsWithRoom profile told told' → Serves status low high actions sink sink told told'
+    → StopsOpening profile told told' why → StopsWithRoom profile told told' → Serves status (from_to low high) actions (from_to sink sink) (from_to told told')
 Serves-store status low high actions sink told told' why e is tree stops room =
-    subst (λ n. Serves n low high actions sink sink told told') (sym e)
+    subst (λ n. Serves n (from_to low high) actions (from_to sink sink) (from_to told told')) (sym e)
     (Serves-five low high actions sink told told' tree (subst (StopsOpening profile told told') is stops) room)
 
 pub Serves-memory : (status low high : ℕ) (actions : List Action) (sink : Option (List ℕ)) (told told' : Option Store) (why : BootFault) → status ≡ 7 → why ≡ boot.NoMemory → Moves KeepsTree told told'
-    → StopsOpening profile told told' why → StopsWithRoom profile told told' → Serves status low high actions sink sink told told'
+    → StopsOpening profile told told' why → StopsWithRoom profile told told' → Serves status (from_to low high) actions (from_to sink sink) (from_to told told')
 Serves-memory status low high actions sink told told' why e is tree stops room =
-    subst (λ n. Serves n low high actions sink sink told told') (sym e)
+    subst (λ n. Serves n (from_to low high) actions (from_to sink sink) (from_to told told')) (sym e)
     (Serves-seven low high actions sink told told' tree (subst (StopsOpening profile told told') is stops) room)
 
 -- ---- a journal that isn't opened
 
-served-nine : (low high : ℕ) (opened : List Entry) (actions : List Action) (written now : List ℕ) (before after : Store) → ServedOf 9 low high opened actions written now before after
+served-nine : (low high : ℕ) (opened : List Entry) (actions : List Action) (written now : List ℕ) (before after : Store) → ServedOf 9 (from_to low high) opened actions (from_to written now) (from_to before after)
 served-nine low high opened actions written now before after = record {
   accepted = λ e. absurd (omega (arith, e));
   refused = λ e. absurd (omega (arith, e));
@@ -423,7 +428,7 @@ moved P (Some z) None x e m = absurd m
 moved P (Some z) (Some y) x e m = (y, refl, subst (λ w. P w y) (same_some z x e) m)
 
 pub Serves-full : (status low high : ℕ) (actions : List Action) (sink sink' : Option (List ℕ)) (told told' : Option Store) (faults faults' : ℕ) → told' ≡ told → Tells told (HasFullBook profile)
-    → IsSaid 9 full_line sink sink' faults faults' status → Serves status low high actions sink sink' told told'
+    → IsSaid 9 full_line sink sink' faults faults' status → Serves status (from_to low high) actions (from_to sink sink') (from_to told told')
 Serves-full status low high actions sink sink' told told' faults faults' same full (inl said) = λ written store opened at_sink at_told opens.
     let there = moved (Gains full_line) sink sink' written at_sink said.1.wrote in
     record {
@@ -431,7 +436,7 @@ Serves-full status low high actions sink sink' told told' faults faults' same fu
       store = store;
       sink_tells = there.1;
       store_tells = same ∙ at_told;
-      served = subst (λ n. ServedOf n low high opened actions written there.0 store store) (sym said.0) (served-nine low high opened actions written there.0 store store);
+      served = subst (λ n. ServedOf n (from_to low high) opened actions (from_to written there.0) (from_to store store)) (sym said.0) (served-nine low high opened actions written there.0 store store);
     }
 Serves-full status low high actions sink sink' told told' faults faults' same full (inr cut) = λ written store opened at_sink at_told opens.
     let there = moved (GainsPart full_line) sink sink' written at_sink cut.1.wrote in
@@ -440,7 +445,7 @@ Serves-full status low high actions sink sink' told told' faults faults' same fu
       store = store;
       sink_tells = there.1;
       store_tells = same ∙ at_told;
-      served = subst (λ n. ServedOf n low high opened actions written there.0 store store) (sym cut.0)
+      served = subst (λ n. ServedOf n (from_to low high) opened actions (from_to written there.0) (from_to store store)) (sym cut.0)
           (served-cut low high opened actions written there.0 store store
           (inr (record { full = full-book told store opened at_told opens full; wrote = there.2; store_same = refl })));
     }
@@ -458,27 +463,27 @@ opens-later low high start book store is has = record {
 }
 
 pub done-opens : (low high : ℕ) (start : List Entry) (actions : List Action) (written now : List ℕ) (store : Store) (refused : Bool)
-    → IsServed low high start actions written now store refused → OpensLater start store
+    → IsServed (from_to low high) start actions (from_to written now) store refused → OpensLater start store
 done-opens low high start actions written now store refused is = opens-later low high start is.last.book store is.is_book is.has_book
 
-pub cut-opens : (low high : ℕ) (start : List Entry) (actions : List Action) (written now : List ℕ) (store : Store) → IsCutOff low high start actions written now store → OpensLater start store
+pub cut-opens : (low high : ℕ) (start : List Entry) (actions : List Action) (written now : List ℕ) (store : Store) → IsCutOff (from_to low high) start actions (from_to written now) store → OpensLater start store
 cut-opens low high start actions written now store is = opens-later low high start is.last.book store is.is_book is.has_book
 
 pub stopped-opens : (low high : ℕ) (start : List Entry) (actions : List Action) (written now : List ℕ) (store : Store) (Keeps : Standing → Action → List Entry → Type 0)
-    → IsStopped low high start actions written now store Keeps → OpensLater start store
+    → IsStopped (from_to low high) start actions (from_to written now) store Keeps → OpensLater start store
 stopped-opens low high start actions written now store Keeps is =
     later-behind start (is.is_before.grows.more ++ is.halfway.added) is.book store
     (is.halfway.book ∙ ap (λ (b : List Entry). b ++ is.halfway.added) is.is_before.grows.book_is ∙ append_assoc start is.is_before.grows.more is.halfway.added) is.opens
 
 pub failed-opens : (low high : ℕ) (book : List Entry) (actions : List Action) (written now : List ℕ) (before store : Store)
-    → StopsForStore low high book actions written now before store → OpensLater book store
+    → StopsForStore (from_to low high) book actions (from_to written now) (from_to before store) → OpensLater book store
 failed-opens low high book actions written now before store (inl is) =
     later-behind book (opening_entries (state_of book)) (opening_of book) store refl
     (stopped-opens low high (opening_of book) actions written now store (ReadsFurther store.journal) is)
 failed-opens low high book actions written now before store (inr is) = is.opens
 
 pub lacked-opens : (low high : ℕ) (book : List Entry) (actions : List Action) (written now : List ℕ) (before store : Store)
-    → StopsForMemory low high book actions written now before store → OpensLater book store
+    → StopsForMemory (from_to low high) book actions (from_to written now) (from_to before store) → OpensLater book store
 lacked-opens low high book actions written now before store (inl is) =
     later-behind book (opening_entries (state_of book)) (opening_of book) store refl
     (stopped-opens low high (opening_of book) actions written now store (ReadsTo store.journal) is)

@@ -19,6 +19,7 @@ use Rattle.hv_script.specs.Standing.{Standing as Place, first_standing, holds, i
 use Rattle.hv_script.specs.Actions.{action_for, actions_from, actions_of, least, refused_at, stage_of_pending, statement_in}
 use Rattle.hv_session.specs.Taking.{HoldsAt}
 use Rattle.hv_program.proofs.Doings.{all-last, all-without}
+use Rattle.hv_program.specs.Change.{from_to}
 use Rattle.hv_program.specs.Doing.{Waiting, Standing, is_session, waiting_in, without, ReleasesOne, AreDone, AreInTurn, IsPutOff, Replies, asking_of}
 use Rattle.hv_program.specs.Running.{beginning}
 
@@ -191,7 +192,7 @@ others-settle name held ws h else_ = record {
 }
 
 released : (start book : List Entry) (before now : Standing) (name : List ℕ) (held : List Keeps) (found : Option Waiting) (output : List ℕ) (refused : Bool)
-    → waiting_in name before.waiting ≡ found → ReleasesOne start book before now name found output refused → Settles held before.waiting
+    → waiting_in name before.waiting ≡ found → ReleasesOne (from_to start book) before now name found output refused → Settles held before.waiting
     → Settles (filter (is_other name) held) now.waiting
 released start book before now name held None output refused is done h =
     subst (λ (s : Standing). Settles (filter (is_other name) held) s.waiting) (sym done.0)
@@ -203,8 +204,8 @@ released start book before now name held (Some waiting) output refused is done h
     (else-without name before.waiting h.apart))
 
 run-settles : (start book : List Entry) (before now : Standing) (place : Place) (item : Item) (output : List ℕ) (refused : Bool) → is_held place.current place.held ≡ false
-    → Replies start book before now (asking_of (statement_in place item)) (statement_in place item).hold output refused
-    ⊎ IsPutOff start book before now (asking_of (statement_in place item)) (statement_in place item).hold output refused
+    → Replies (from_to start book) before now (asking_of (statement_in place item)) (statement_in place item).hold output refused
+    ⊎ IsPutOff (from_to start book) before now (asking_of (statement_in place item)) (statement_in place item).hold output refused
     → Settles place.held before.waiting → Settles (with_held place.current place.pending place.held) now.waiting
 run-settles start book before now place item output refused free (inl done) h =
     subst (Settles (with_held place.current place.pending place.held)) (sym done.waiting_same) (with-settles place.current place.pending place.held before.waiting h)
@@ -217,11 +218,11 @@ record GoesOn (start book : List Entry) (now : Standing) (rest : List Action) (h
   between : Standing
   output : List ℕ
   refused : Bool
-  are_done : AreDone start book between now rest output refused
+  are_done : AreDone (from_to start book) between now rest output refused
   settles : Settles held between.waiting
 
 item-settles : (start book : List Entry) (before now : Standing) (place : Place) (item : Item) (kind : Kind) (rest : List Action) (output : List ℕ) (refused : Bool)
-    → is_faulty place item kind ≡ false → AreDone start book before now (option_to_list (action_for place item kind) ++ rest) output refused
+    → is_faulty place item kind ≡ false → AreDone (from_to start book) before now (option_to_list (action_for place item kind) ++ rest) output refused
     → Settles place.held before.waiting → GoesOn start book now rest (after place item kind).held
 item-settles start book before now place item Statement rest output refused ok done h =
     let free = (or_parts (nat_lt 32768 (length item.bytes) || nat_le 10000 place.statements) (is_held place.current place.held) ok).1 in
@@ -236,11 +237,11 @@ item-settles start book before now place item Unknown rest output refused ok don
 
 -- an item's action is in turn, where those behind it are
 item-in-turn : (start book : List Entry) (before now : Standing) (place : Place) (item : Item) (kind : Kind) (rest : List Action) (output : List ℕ) (refused : Bool)
-    → is_faulty place item kind ≡ false → (done : AreDone start book before now (option_to_list (action_for place item kind) ++ rest) output refused)
+    → is_faulty place item kind ≡ false → (done : AreDone (from_to start book) before now (option_to_list (action_for place item kind) ++ rest) output refused)
     → Settles place.held before.waiting
-    → ((between : Standing) (more : List ℕ) (later : Bool) (those : AreDone start book between now rest more later) → Settles (after place item kind).held between.waiting
-    → AreInTurn start book between now rest more later those)
-    → AreInTurn start book before now (option_to_list (action_for place item kind) ++ rest) output refused done
+    → ((between : Standing) (more : List ℕ) (later : Bool) (those : AreDone (from_to start book) between now rest more later) → Settles (after place item kind).held between.waiting
+    → AreInTurn (from_to start book) between now rest more later those)
+    → AreInTurn (from_to start book) before now (option_to_list (action_for place item kind) ++ rest) output refused done
 item-in-turn start book before now place item Statement rest output refused ok done h next =
     let free = (or_parts (nat_lt 32768 (length item.bytes) || nat_le 10000 place.statements) (is_held place.current place.held) ok).1 in (
       nobody-waits place.current place.held before.waiting free h.known,
@@ -273,13 +274,13 @@ faultless true line these those e = absurd (none-line line these e)
 faultless false line these those e = (refl, e)
 
 settled-from : (start book : List Entry) (before now : Standing) (place : Place) (items : List Item) (output : List ℕ) (refused : Bool) → fault_lines place items ≡ []
-    → AreDone start book before now (actions_from place items) output refused → Settles place.held before.waiting → now.waiting ≡ []
+    → AreDone (from_to start book) before now (actions_from place items) output refused → Settles place.held before.waiting → now.waiting ≡ []
 settled-from start book before now place [] output refused ok done h =
     subst (λ (s : Standing). s.waiting ≡ []) (sym done.0) (none-waits before.waiting place.held (no-held (option_to_list (option_map line_of_pending place.pending)) place.held ok) h)
 settled-from start book before now place (item ∷ items) output refused ok done h =
     let kind = kind_of item.bytes in
     let parts = faultless (is_faulty place item kind) item.line (fault_lines place items) (fault_lines (after place item kind) items) ok in
-    let here = subst (λ (b : Bool). AreDone start book before now (cond b (actions_from place items)
+    let here = subst (λ (b : Bool). AreDone (from_to start book) before now (cond b (actions_from place items)
     (option_to_list (action_for place item kind) ++ actions_from (after place item kind) items)) output refused) parts.0 done in
     let on = item-settles start book before now place item kind (actions_from (after place item kind) items) output refused parts.0 here h in
     settled-from start book on.between now (after place item kind) items on.output on.refused parts.1 on.are_done on.settles
@@ -294,7 +295,7 @@ none-least [] e = refl
 none-least (line ∷ lines) e = let no_ : Some line ≡ None = (earlier-none (Some line) (least lines) e).0 in cc
 
 pub settled : (script : List ℕ) (start book : List Entry) (now : Standing) (output : List ℕ) (refused : Bool) → refused_at script ≡ None
-    → AreDone start book (beginning start) now (actions_of script) output refused → now.waiting ≡ []
+    → AreDone (from_to start book) (beginning start) now (actions_of script) output refused → now.waiting ≡ []
 settled script start book now output refused ok done =
     let lines = (earlier-none (bytes_line script) (least (fault_lines first_standing (items_of (front script)))) ok).1 in
     settled-from start book (beginning start) now first_standing (items_of (front script)) output refused
@@ -302,15 +303,15 @@ settled script start book now output refused ok done =
 
 -- what holds of the actions behind a test that isn't met
 in-turn-by : (start book : List Entry) (before now : Standing) (b : Bool) (met unmet : List Action) (output : List ℕ) (refused : Bool) → b ≡ false
-    → (done : AreDone start book before now (cond b met unmet) output refused)
-    → ((those : AreDone start book before now unmet output refused) → AreInTurn start book before now unmet output refused those)
-    → AreInTurn start book before now (cond b met unmet) output refused done
+    → (done : AreDone (from_to start book) before now (cond b met unmet) output refused)
+    → ((those : AreDone (from_to start book) before now unmet output refused) → AreInTurn (from_to start book) before now unmet output refused those)
+    → AreInTurn (from_to start book) before now (cond b met unmet) output refused done
 in-turn-by start book before now true met unmet output refused is done next = let no_ : true ≡ false = is in cc
 in-turn-by start book before now false met unmet output refused is done next = next done
 
 in-turn-from : (start book : List Entry) (before now : Standing) (place : Place) (items : List Item) (output : List ℕ) (refused : Bool) → fault_lines place items ≡ []
-    → (done : AreDone start book before now (actions_from place items) output refused) → Settles place.held before.waiting
-    → AreInTurn start book before now (actions_from place items) output refused done
+    → (done : AreDone (from_to start book) before now (actions_from place items) output refused) → Settles place.held before.waiting
+    → AreInTurn (from_to start book) before now (actions_from place items) output refused done
 in-turn-from start book before now place [] output refused ok done h = tt
 in-turn-from start book before now place (item ∷ items) output refused ok done h =
     let kind = kind_of item.bytes in
@@ -321,8 +322,8 @@ in-turn-from start book before now place (item ∷ items) output refused ok done
     (λ between more later rest on. in-turn-from start book between now (after place item kind) items more later parts.1 rest on))
 
 pub in-turn : (script : List ℕ) (start book : List Entry) (now : Standing) (output : List ℕ) (refused : Bool) → refused_at script ≡ None
-    → (done : AreDone start book (beginning start) now (actions_of script) output refused)
-    → AreInTurn start book (beginning start) now (actions_of script) output refused done
+    → (done : AreDone (from_to start book) (beginning start) now (actions_of script) output refused)
+    → AreInTurn (from_to start book) (beginning start) now (actions_of script) output refused done
 in-turn script start book now output refused ok done =
     let lines = (earlier-none (bytes_line script) (least (fault_lines first_standing (items_of (front script)))) ok).1 in
     in-turn-from start book (beginning start) now first_standing (items_of (front script)) output refused

@@ -7,13 +7,12 @@ use Rattle.hv_history.specs.Answers.{cause_text}
 use Rattle.hv_journal.specs.Appending.{Holds}
 use Rattle.hv_stands.specs.Running.{Asking}
 use Rattle.hv_base.specs.declared.gate.Stage.{Stage}
-use Rattle.hv_session.specs.hv_steps.specs.hv_acts.specs.hv_telling.specs.hv_house.specs.declared.fault.HouseFault.{HouseFault}
-use Rattle.hv_session.specs.hv_steps.specs.hv_acts.specs.hv_telling.specs.hv_house.specs.declared.fault.HouseFault.TheVariants as fault
-use Rattle.hv_session.specs.hv_steps.specs.hv_acts.specs.hv_telling.specs.hv_house.specs.declared.house.House.{House}
-use Rattle.hv_session.specs.hv_steps.specs.hv_acts.specs.hv_telling.specs.hv_house.specs.House.{entries_of}
+use Rattle.hv_session.specs.hv_steps.specs.hv_table_reader.specs.hv_acts.specs.hv_telling.specs.hv_house.specs.declared.fault.HouseFault.{HouseFault}
+use Rattle.hv_session.specs.hv_steps.specs.hv_table_reader.specs.hv_acts.specs.hv_telling.specs.hv_house.specs.declared.fault.HouseFault.TheVariants as fault
+use Rattle.hv_session.specs.hv_steps.specs.hv_table_reader.specs.hv_acts.specs.hv_telling.specs.hv_house.specs.declared.house.House.{House}
+use Rattle.hv_session.specs.hv_steps.specs.hv_table_reader.specs.hv_acts.specs.hv_telling.specs.hv_house.specs.House.{entries_of}
 use Rattle.hv_session.specs.hv_steps.specs.declared.ready.Reply.{Reply}
 use Rattle.hv_session.specs.hv_steps.specs.Ending.{AddsOf}
-use Rattle.hv_session.specs.hv_steps.specs.declared.reply.Done.TheVariants as done
 use Rattle.hv_session.specs.declared.paused.Taken.TheVariants as taken
 use Rattle.hv_session.specs.Lines.{IsLine}
 use Rattle.hv_session.specs.Taking.{IsTakenAs}
@@ -23,22 +22,26 @@ pub still-adds : (txn low high : ℕ) (book : List Entry) → AddsOf txn low hig
 still-adds txn low high book = record { added = []; book = sym (append-nil book); of_it = tt; counts = tt }
 
 pub lacking-taken : (book : List Entry) (asking : Asking) (hold : Option Stage) (reply : Reply) → IsLine (cause_text None cause.Memory) reply
-    → IsTakenAs book book asking hold (taken.Ended (done.Replied reply))
+    → IsTakenAs book book asking hold (taken.Replied reply)
 lacking-taken book asking hold reply line = inr (inr (inr (record { book = refl; unended = line.unended; is_refused = line.refusal; line = line.line_is })))
 
 pub still-stops : {D T : Type 0} (told : D → Option Store) (house : House D) (asking : Asking) (result : Result T HouseFault) → IsErrAnd result (λ e. e ≡ fault.NoMemory)
     → Holds (told house.shelf) (entries_of house) → IfErr result (λ why. StopsTaken told asking why house house)
 still-stops told house asking (Ok x) is holds = tt
 still-stops told house asking (Err why) is holds =
-    subst (λ (e : HouseFault). StopsTaken told asking e house house) (sym is) (inl (record {
-      added = [];
-      book = sym (append-nil (entries_of house));
-      of_it = tt;
-      legal = record { fit = tt; truthful = tt };
-      unended = tt;
-      further = [];
-      further_of_it = tt;
-      few = omega arith;
-      fit = tt;
-      leaves = holds;
-    }))
+    subst (λ (e : HouseFault). StopsTaken told asking e house house) (sym is) (inl (
+      record {
+        added = [];
+        book = sym (append-nil (entries_of house));
+        of_it = tt;
+        legal = record { fit = tt; truthful = tt };
+        unended = tt;
+        further = [];
+        further_of_it = tt;
+        unopened = tt;
+        few = omega arith;
+        fit = tt;
+        leaves = holds;
+      },
+      tt,
+    ))

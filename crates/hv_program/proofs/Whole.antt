@@ -15,12 +15,13 @@ use Rattle.hv_base.specs.Told.{Tells}
 use Rattle.hv_script.specs.Words.{run_of}
 use Rattle.hv_program.specs.declared.stop.Stop.{Stop}
 use Rattle.hv_program.specs.declared.stop.Stop.TheVariants as stop
+use Rattle.hv_program.specs.Change.{from_to}
 use Rattle.hv_program.specs.Stops.{status_of_stop}
 use Rattle.hv_program.specs.Reading.{TakesUpTo}
 use Rattle.hv_program.specs.Lines.{words_line, script_line, full_line}
 use Rattle.hv_program.specs.Refused.{is_one_of}
 use Rattle.hv_history.specs.declared.entry.Entry.{Entry}
-use Rattle.hv_session.specs.hv_steps.specs.hv_acts.specs.hv_telling.specs.hv_house.specs.Booting.{OpensTo, opening_of}
+use Rattle.hv_session.specs.hv_steps.specs.hv_table_reader.specs.hv_acts.specs.hv_telling.specs.hv_house.specs.Booting.{OpensTo, opening_of}
 use Rattle.hv_program.specs.Results.{IsServed, IsCutOff}
 use Rattle.hv_program.specs.Headline.{IsWhole, IsAllDone, IsLineOf, IsCutLine, IsUnread, IsAfter, Headline}
 use Rattle.hv_program.specs.Serving.{ServedOf, Serves, IsCutFull, IsSaid, IsSaidOrNot}
@@ -57,7 +58,7 @@ pub Headline-by : (low high : ℕ) (words : List (List ℕ)) (source source' sin
     → StaysTold source source' → StaysTold sink sink' → LeavesStore sink told told'
     → ((script left written now : List ℕ) (store store' : Store) (book : List Entry) → source ≡ Some script → source' ≡ Some left
     → sink ≡ Some written → sink' ≡ Some now → told ≡ Some store → told' ≡ Some store' → OpensTo book store
-    → IsAfter low high words book status script left written now store store')
+    → IsAfter (from_to low high) words book status (from_to script left) (from_to written now) (from_to store store'))
     → Headline words (record { source = source; sink = sink; store = told }) (record { source = source'; sink = sink'; store = told' }) low high status
 Headline-by low high words source source' sink sink' told told' status read heard stays by = λ script written store book at_source at_sink at_store opens.
     let left = tells-still source source' script read at_source in
@@ -66,7 +67,7 @@ Headline-by low high words source source' sink sink' told told' status read hear
     record {
       left = left.0;
       now = now.0;
-      store_now = after.0;
+      store = after.0;
       source_tells = left.1;
       sink_tells = now.1;
       store_tells = after.1;
@@ -94,7 +95,7 @@ three-or-seven stop.Store status h e = cc
 three-or-seven stop.NoMemory status h e = inr e
 
 module _ (low high : ℕ) (words : List (List ℕ)) (book : List Entry) (script left written now : List ℕ) (before after : Store) where
-  quiet : (n : ℕ) → (n ≡ 0 → ⊥) → (n ≡ 1 → ⊥) → (n ≡ 3 → ⊥) → (n ≡ 4 → ⊥) → (n ≡ 5 → ⊥) → (n ≡ 7 → ⊥) → IsAfter low high words book n script left written now before after
+  quiet : (n : ℕ) → (n ≡ 0 → ⊥) → (n ≡ 1 → ⊥) → (n ≡ 3 → ⊥) → (n ≡ 4 → ⊥) → (n ≡ 5 → ⊥) → (n ≡ 7 → ⊥) → IsAfter (from_to low high) words book n (from_to script left) (from_to written now) (from_to before after)
   quiet n zero_ one three four five seven = record {
     accepted = λ e. absurd (zero_ e);
     refused = λ e. absurd (one e);
@@ -104,13 +105,13 @@ module _ (low high : ℕ) (words : List (List ℕ)) (book : List Entry) (script 
     no_memory = λ e. absurd (seven e);
   }
 
-  after-two : IsAfter low high words book 2 script left written now before after
+  after-two : IsAfter (from_to low high) words book 2 (from_to script left) (from_to written now) (from_to before after)
   after-two = quiet 2 (λ e. omega (arith, e)) (λ e. omega (arith, e)) (λ e. omega (arith, e)) (λ e. omega (arith, e)) (λ e. omega (arith, e)) (λ e. omega (arith, e))
 
-  after-eight : IsAfter low high words book 8 script left written now before after
+  after-eight : IsAfter (from_to low high) words book 8 (from_to script left) (from_to written now) (from_to before after)
   after-eight = quiet 8 (λ e. omega (arith, e)) (λ e. omega (arith, e)) (λ e. omega (arith, e)) (λ e. omega (arith, e)) (λ e. omega (arith, e)) (λ e. omega (arith, e))
 
-  after-three : IsUnread written now before after → IsAfter low high words book 3 script left written now before after
+  after-three : IsUnread (from_to written now) (from_to before after) → IsAfter (from_to low high) words book 3 (from_to script left) (from_to written now) (from_to before after)
   after-three h = record {
     accepted = λ e. absurd (omega (arith, e));
     refused = λ e. absurd (omega (arith, e));
@@ -120,7 +121,7 @@ module _ (low high : ℕ) (words : List (List ℕ)) (book : List Entry) (script 
     no_memory = λ e. absurd (omega (arith, e));
   }
 
-  after-four : IsCutLine words book script written now before after → IsAfter low high words book 4 script left written now before after
+  after-four : IsCutLine words book script (from_to written now) (from_to before after) → IsAfter (from_to low high) words book 4 (from_to script left) (from_to written now) (from_to before after)
   after-four h = record {
     accepted = λ e. absurd (omega (arith, e));
     refused = λ e. absurd (omega (arith, e));
@@ -130,7 +131,7 @@ module _ (low high : ℕ) (words : List (List ℕ)) (book : List Entry) (script 
     no_memory = λ e. absurd (omega (arith, e));
   }
 
-  after-seven : IsUnread written now before after → IsAfter low high words book 7 script left written now before after
+  after-seven : IsUnread (from_to written now) (from_to before after) → IsAfter (from_to low high) words book 7 (from_to script left) (from_to written now) (from_to before after)
   after-seven h = record {
     accepted = λ e. absurd (omega (arith, e));
     refused = λ e. absurd (omega (arith, e));
@@ -140,37 +141,37 @@ module _ (low high : ℕ) (words : List (List ℕ)) (book : List Entry) (script 
     no_memory = λ e. inr h;
   }
 
-  after-line : (status wanted : ℕ) (line : List ℕ) (sink sink' : Option (List ℕ)) (faults faults' : ℕ) → IsLineOf words book script line → IsAfter low high words book wanted script left written now before after
+  after-line : (status wanted : ℕ) (line : List ℕ) (sink sink' : Option (List ℕ)) (faults faults' : ℕ) → IsLineOf words book script line → IsAfter (from_to low high) words book wanted (from_to script left) (from_to written now) (from_to before after)
       → after ≡ before → sink ≡ Some written → sink' ≡ Some now → IsSaid wanted line sink sink' faults faults' status
-      → IsAfter low high words book status script left written now before after
+      → IsAfter (from_to low high) words book status (from_to script left) (from_to written now) (from_to before after)
   after-line status wanted line sink sink' faults faults' is well same at_sink at_now (inl said) =
-      subst (λ n. IsAfter low high words book n script left written now before after) (sym said.0) well
+      subst (λ n. IsAfter (from_to low high) words book n (from_to script left) (from_to written now) (from_to before after)) (sym said.0) well
   after-line status wanted line sink sink' faults faults' is well same at_sink at_now (inr cut) =
-      subst (λ n. IsAfter low high words book n script left written now before after) (sym cut.0)
+      subst (λ n. IsAfter (from_to low high) words book n (from_to script left) (from_to written now) (from_to before after)) (sym cut.0)
       (after-four (record { line = line; is_line = is; wrote = between (GainsPart line) sink sink' written now at_sink at_now cut.1.wrote; store_same = same }))
 
-  after-said : (status wanted : ℕ) (line : List ℕ) (sink sink' : Option (List ℕ)) (faults faults' : ℕ) → IsLineOf words book script line → IsAfter low high words book wanted script left written now before after
+  after-said : (status wanted : ℕ) (line : List ℕ) (sink sink' : Option (List ℕ)) (faults faults' : ℕ) → IsLineOf words book script line → IsAfter (from_to low high) words book wanted (from_to script left) (from_to written now) (from_to before after)
       → after ≡ before → sink ≡ Some written → sink' ≡ Some now → IsSaidOrNot wanted line sink sink' faults faults' status
-      → IsAfter low high words book status script left written now before after
+      → IsAfter (from_to low high) words book status (from_to script left) (from_to written now) (from_to before after)
   after-said status wanted line sink sink' faults faults' is well same at_sink at_now (inl said) = after-line status wanted line sink sink' faults faults' is well same at_sink at_now said
   after-said status wanted line sink sink' faults faults' is well same at_sink at_now (inr unsaid) =
-      subst (λ n. IsAfter low high words book n script left written now before after) (sym unsaid.0)
+      subst (λ n. IsAfter (from_to low high) words book n (from_to script left) (from_to written now) (from_to before after)) (sym unsaid.0)
       (after-seven (record { wrote = still sink sink' written now unsaid.1 at_sink at_now; store_same = same }))
 
-  after-unread : (status : ℕ) → (status ≡ 3) ⊎ (status ≡ 7) → IsUnread written now before after → IsAfter low high words book status script left written now before after
-  after-unread status (inl e) unread = subst (λ n. IsAfter low high words book n script left written now before after) (sym e) (after-three unread)
-  after-unread status (inr e) unread = subst (λ n. IsAfter low high words book n script left written now before after) (sym e) (after-seven unread)
+  after-unread : (status : ℕ) → (status ≡ 3) ⊎ (status ≡ 7) → IsUnread (from_to written now) (from_to before after) → IsAfter (from_to low high) words book status (from_to script left) (from_to written now) (from_to before after)
+  after-unread status (inl e) unread = subst (λ n. IsAfter (from_to low high) words book n (from_to script left) (from_to written now) (from_to before after)) (sym e) (after-three unread)
+  after-unread status (inr e) unread = subst (λ n. IsAfter (from_to low high) words book n (from_to script left) (from_to written now) (from_to before after)) (sym e) (after-seven unread)
 
-  after-memory : (status : ℕ) → status ≡ 7 → IsUnread written now before after → IsAfter low high words book status script left written now before after
-  after-memory status e unread = subst (λ n. IsAfter low high words book n script left written now before after) (sym e) (after-seven unread)
+  after-memory : (status : ℕ) → status ≡ 7 → IsUnread (from_to written now) (from_to before after) → IsAfter (from_to low high) words book status (from_to script left) (from_to written now) (from_to before after)
+  after-memory status e unread = subst (λ n. IsAfter (from_to low high) words book n (from_to script left) (from_to written now) (from_to before after)) (sym e) (after-seven unread)
 
-  cut-by : IsWhole script left → (IsCutOff low high (opening_of book) (actions_of script) written now after ⊎ IsCutFull book written now before after)
-      → (IsWhole script left × IsCutOff low high (opening_of book) (actions_of script) written now after) ⊎ IsCutLine words book script written now before after
+  cut-by : IsWhole script left → (IsCutOff (from_to low high) (opening_of book) (actions_of script) (from_to written now) after ⊎ IsCutFull book (from_to written now) (from_to before after))
+      → (IsWhole script left × IsCutOff (from_to low high) (opening_of book) (actions_of script) (from_to written now) after) ⊎ IsCutLine words book script (from_to written now) (from_to before after)
   cut-by whole (inl cut) = inl (whole, cut)
   cut-by whole (inr full) = inr (record { line = full_line; is_line = inr (inr (whole.unrefused, full.full, refl)); wrote = full.wrote; store_same = full.store_same })
 
-  all-done : IsWhole script left → (refused : Bool) → IsServed low high (opening_of book) (actions_of script) written now after refused
-      → IsAllDone low high book script left written now after refused
+  all-done : IsWhole script left → (refused : Bool) → IsServed (from_to low high) (opening_of book) (actions_of script) (from_to written now) after refused
+      → IsAllDone (from_to low high) book (from_to script left) (from_to written now) after refused
   all-done whole refused served = record {
     whole = whole;
     served = served;
@@ -178,10 +179,11 @@ module _ (low high : ℕ) (words : List (List ℕ)) (book : List Entry) (script 
     settled = settled script (opening_of book) served.last.book served.last served.output refused whole.unrefused served.are_done;
   }
 
-  after-served : (status : ℕ) (actions : List Action) → IsWhole script left → actions ≡ actions_of script → ServedOf status low high book actions written now before after
-      → IsAfter low high words book status script left written now before after
+  after-served : (status : ℕ) (actions : List Action) → IsWhole script left → actions ≡ actions_of script → ServedOf status (from_to low high) book actions (from_to written now) (from_to before after)
+      → IsAfter (from_to low high) words book status (from_to script left) (from_to written now) (from_to before after)
   after-served status actions whole same h =
-      let served : ServedOf status low high book (actions_of script) written now before after = subst (λ t. ServedOf status low high book t written now before after) same h in
+      let served : ServedOf status (from_to low high) book (actions_of script) (from_to written now) (from_to before after) =
+      subst (λ t. ServedOf status (from_to low high) book t (from_to written now) (from_to before after)) same h in
       record {
         accepted = λ e. all-done whole false (served.accepted e);
         refused = λ e. all-done whole true (served.refused e);
@@ -241,7 +243,7 @@ is-whole bytes script left read fine =
     let is_script : bytes ≡ script = sym (read.taken ∙ ap (λ t. bytes ++ t) at_end ∙ append-nil bytes) in
     (is_script, record { unrefused = subst (λ (b : List ℕ). refused_at b ≡ None) is_script fine; at_end = at_end })
 
-serves-store : (status low high : ℕ) (actions : List Action) (sink sink' : Option (List ℕ)) (told told' : Option Store) → Serves status low high actions sink sink' told told'
+serves-store : (status low high : ℕ) (actions : List Action) (sink sink' : Option (List ℕ)) (told told' : Option Store) → Serves status (from_to low high) actions (from_to sink sink') (from_to told told')
     → LeavesStore sink told told'
 serves-store status low high actions sink sink' told told' serves = λ written store book at_sink at_store opens.
     let served = serves written store book at_sink at_store opens in
@@ -249,7 +251,7 @@ serves-store status low high actions sink sink' told told' serves = λ written s
 
 pub Headline-served : (low high : ℕ) (words : List (List ℕ)) (bytes given : List ℕ) (actions : List Action) (source source' sink sink' : Option (List ℕ)) (told told' : Option Store) (status : ℕ)
     → given ≡ bytes → Moves (TakesUpTo 16777217 bytes) source source' → refused_at given ≡ None → actions ≡ actions_of given
-    → StaysTold source source' → StaysTold sink sink' → Serves status low high actions sink sink' told told'
+    → StaysTold source source' → StaysTold sink sink' → Serves status (from_to low high) actions (from_to sink sink') (from_to told told')
     → Headline words (record { source = source; sink = sink; store = told }) (record { source = source'; sink = sink'; store = told' }) low high status
 Headline-served low high words bytes given actions source source' sink sink' told told' status given_is moves fine same read heard serves =
     Headline-by low high words source source' sink sink' told told' status read heard (serves-store status low high actions sink sink' told told' serves)
@@ -259,7 +261,7 @@ Headline-served low high words bytes given actions source source' sink sink' tol
     (subst (λ b. Moves (TakesUpTo 16777217 b) source source') (sym given_is) moves) in
     let whole = is-whole given script left takes fine in
     let served = serves written store book at_sink at_store opens in
-    let here : ServedOf status low high book actions written now store store' =
-    subst (λ x. ServedOf status low high book actions written now store x) (one_content told' store' served.store at_after served.store_tells)
-    (subst (λ x. ServedOf status low high book actions written x store served.store) (one_content sink' now served.now at_now served.sink_tells) served.served) in
+    let here : ServedOf status (from_to low high) book actions (from_to written now) (from_to store store') =
+    subst (λ x. ServedOf status (from_to low high) book actions (from_to written now) (from_to store x)) (one_content told' store' served.store at_after served.store_tells)
+    (subst (λ x. ServedOf status (from_to low high) book actions (from_to written x) (from_to store served.store)) (one_content sink' now served.now at_now served.sink_tells) served.served) in
     after-served low high words book script left written now store store' status actions whole.1 (same ∙ ap actions_of whole.0) here)

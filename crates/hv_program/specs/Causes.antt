@@ -5,21 +5,24 @@ use Rattle.hv_base.specs.Told.{Tells}
 use Rattle.hv_script.specs.Words.{run_of}
 use Rattle.hv_script.specs.Actions.{refused_at}
 use Rattle.hv_history.specs.Legal.{profile}
-use Rattle.hv_session.specs.hv_steps.specs.hv_acts.specs.hv_telling.specs.hv_house.specs.Booting.{CanOpen}
+use Rattle.hv_session.specs.hv_steps.specs.hv_table_reader.specs.hv_acts.specs.hv_telling.specs.hv_house.specs.Booting.{CanOpen}
 use Rattle.hv_program.specs.Headline.{Outside}
 use Rattle.hv_program.specs.Refused.{is_one_of}
 
--- how many calls of the source, the sink and the store failed so far
+-- How many calls of the source, the sink and the store failed so far; and the store's hard count, of those of its journal, and of those of
+-- files at the last count.
 pub record Counts : Type 0 where
   pub source : ℕ
   pub sink : ℕ
   pub store : ℕ
+  pub hard : ℕ
 
--- a device is blamed only where it failed in this run
+-- A device is blamed only where it failed in this run; and the store only where its journal did, or a call on files at the last count.
 pub record HasCauses (before now : Counts) (status : ℕ) : Type 0 where
   pub source : status ≡ 3 → Rose before.source now.source
   pub sink : status ≡ 4 → Rose before.sink now.sink
   pub store : status ≡ 5 → Rose before.store now.store
+  pub hard : status ≡ 5 → Rose before.hard now.hard
 
 -- no device failed in this run
 pub record IsFaultless (before now : Counts) : Type 0 where

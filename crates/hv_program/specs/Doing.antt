@@ -16,11 +16,12 @@ use Rattle.hv_history.specs.Legal.{Of, load, profile}
 use Rattle.hv_history.specs.Answers.{line, cause_text}
 use Rattle.hv_stands.specs.Running.{Asking, next_number, opening, AreOf}
 use Rattle.hv_law_next.specs.Order.{AllInOrder}
-use Rattle.hv_law_next.specs.Carrying.{IsAtHold}
+use Rattle.hv_law_next.specs.Carrying.{IsAtHold, HasAskedAt}
 use Rattle.hv_session.specs.hv_steps.specs.Ending.{HasReplied}
 use Rattle.hv_session.specs.Faults.{IsFaultLine}
-use Rattle.hv_session.specs.hv_steps.specs.hv_acts.specs.hv_telling.specs.hv_house.specs.Asking.{CanBegin}
+use Rattle.hv_session.specs.hv_steps.specs.hv_table_reader.specs.hv_acts.specs.hv_telling.specs.hv_house.specs.Asking.{CanBegin}
 use Rattle.hv_session.specs.Taking.{StartsIfItCan, EndsBefore, HoldsAt}
+use Rattle.hv_program.specs.Change.{Change}
 
 -- ---- where a run stands between two actions
 
@@ -49,15 +50,15 @@ without name (first ∷ more) = if is_session name first then more else first �
 abbrev pub asking_of : Statement → Asking
 asking_of statement = record { session = statement.session.name; number = statement.number; text = statement.text }
 
--- ---- replies, by the book that the run leaves
+-- ---- replies, by the books of the run: the one that it began with, and the one that it leaves
 
 -- the statement was opened as a transaction, behind those of an earlier run, and the reply is its answer: what the text means at its
 -- snapshot, or its refusal
-pub record IsAnswerIn (start book : List Entry) (asking : Asking) (txn : ℕ) (reply : List ℕ) (refused : Bool) : Type 0 where
-  pub own : length (state_of start).transactions < txn
-  pub was_opened : Contains book (Opened (record { 0 = txn }) asking.session asking.number asking.text)
+pub record IsAnswerIn (books : Change (List Entry)) (asking : Asking) (txn : ℕ) (reply : List ℕ) (refused : Bool) : Type 0 where
+  pub own : length (state_of books.was).transactions < txn
+  pub was_opened : Contains books.now (Opened (record { 0 = txn }) asking.session asking.number asking.text)
   pub ended : Option ℕ
-  pub answered : HasReplied book txn reply refused ended
+  pub answered : HasReplied books.now txn reply refused ended
 
 -- the text is refused, and its line is the reply
 pub record IsFaultIn (text reply : List ℕ) (refused : Bool) : Type 0 where
@@ -72,8 +73,8 @@ pub record IsLineOf (reply wanted : List ℕ) (refused : Bool) : Type 0 where
 -- ---- one action
 
 -- It went on to its end at once: as a transaction that started where it could, whose entries come in the order of its way, and that ended
--- before the place where it was to be held.
-pub record WentOn (start book before now : List Entry) (asking : Asking) (hold : Option Stage) (reply : List ℕ) (refused : Bool) : Type 0 where
+-- then, before the place where it was to be held.
+pub record WentOn (books : Change (List Entry)) (before now : List Entry) (asking : Asking) (hold : Option Stage) (reply : List ℕ) (refused : Bool) : Type 0 where
   pub added : List Entry
   pub goes : now ≡ before ++ opening before asking ∷ added
   pub tree : Stmt
@@ -81,74 +82,78 @@ pub record WentOn (start book before now : List Entry) (asking : Asking) (hold :
   pub starts : StartsIfItCan before tree (next_number before) added
   pub of_it : AreOf (next_number before) added
   pub in_time : EndsBefore hold (next_number before) added
-  pub is_answer : IsAnswerIn start book asking (next_number before) reply refused
+  pub is_answer : IsAnswerIn books asking (next_number before) reply refused
+  pub answered_then : HasReplied now (next_number before) reply refused is_answer.ended
   pub in_order : AllInOrder (state_of before) (opening before asking ∷ added)
 
-abbrev pub RepliesAtOnce : List Entry → List Entry → List Entry → List Entry → Asking → Option Stage → List ℕ → Bool → Type 0
-RepliesAtOnce start book before now asking hold reply refused =
-    WentOn start book before now asking hold reply refused
+abbrev pub RepliesAtOnce : Change (List Entry) → List Entry → List Entry → Asking → Option Stage → List ℕ → Bool → Type 0
+RepliesAtOnce books before now asking hold reply refused =
+    WentOn books before now asking hold reply refused
     ⊎ ((now ≡ before) × IsRefused asking.text × IsFaultIn asking.text reply refused)
     ⊎ ((now ≡ before) × (profile.entries < load (state_of before) + 2) × IsLineOf reply (cause_text None cause.Full) refused)
     ⊎ ((now ≡ before) × IsLineOf reply (cause_text None cause.Memory) refused)
 
 -- It is held: its transaction is open, and nothing is printed. Its entries come in the order of its way, and none is left that comes before
--- its hold.
-pub record IsHeldNow (start book before now : List Entry) (asking : Asking) (hold : Option Stage) : Type 0 where
+-- its hold: before its commit it has asked for all aborts that its text lists.
+pub record IsHeldNow (books : Change (List Entry)) (before now : List Entry) (asking : Asking) (hold : Option Stage) : Type 0 where
   pub added : List Entry
   pub goes : now ≡ before ++ opening before asking ∷ added
   pub tree : Stmt
   pub runs : Runs asking.text tree
   pub can : CanBegin profile before tree
   pub at_hold : HoldsAt hold (next_number before) added
-  pub own : length (state_of start).transactions < next_number before
-  pub was_opened : Contains book (opening before asking)
+  pub own : length (state_of books.was).transactions < next_number before
+  pub was_opened : Contains books.now (opening before asking)
   pub in_order : AllInOrder (state_of before) (opening before asking ∷ added)
-  pub up_to_hold : Of (state_of now) (next_number before) (λ transaction. IsAtHold hold transaction.given (meaning transaction))
+  pub up_to_hold : Of (state_of now) (next_number before)
+      (λ transaction. IsAtHold hold transaction.given (meaning transaction) × HasAskedAt hold (state_of now) (next_number before) transaction)
 
-pub record Replies (start book : List Entry) (before now : Standing) (asking : Asking) (hold : Option Stage) (output : List ℕ) (refused : Bool) : Type 0 where
-  pub goes : RepliesAtOnce start book before.book now.book asking hold output refused
+pub record Replies (books : Change (List Entry)) (before now : Standing) (asking : Asking) (hold : Option Stage) (output : List ℕ) (refused : Bool) : Type 0 where
+  pub goes : RepliesAtOnce books before.book now.book asking hold output refused
   pub waiting_same : now.waiting ≡ before.waiting
 
-pub record IsPutOff (start book : List Entry) (before now : Standing) (asking : Asking) (hold : Option Stage) (output : List ℕ) (refused : Bool) : Type 0 where
-  pub goes : IsHeldNow start book before.book now.book asking hold
+pub record IsPutOff (books : Change (List Entry)) (before now : Standing) (asking : Asking) (hold : Option Stage) (output : List ℕ) (refused : Bool) : Type 0 where
+  pub goes : IsHeldNow books before.book now.book asking hold
   pub waits : now.waiting ≡ before.waiting ++ record { session = asking.session; txn = next_number before.book } ∷ []
   pub nothing : output ≡ []
   pub accepted : refused ≡ false
 
--- a statement that was held went on to its end, by entries of its transaction alone, in the order of its way
-pub record GoesOnHeld (start book before now : List Entry) (txn : ℕ) (reply : List ℕ) (refused : Bool) : Type 0 where
+-- a statement that was held went on to its end, by entries of its transaction alone, in the order of its way; none where another statement had
+-- asked for its abort, and that is its reply
+pub record GoesOnHeld (books : Change (List Entry)) (before now : List Entry) (txn : ℕ) (reply : List ℕ) (refused : Bool) : Type 0 where
   pub added : List Entry
   pub goes : now ≡ before ++ added
   pub of_it : AreOf txn added
-  pub own : length (state_of start).transactions < txn
+  pub own : length (state_of books.was).transactions < txn
   pub ended : Option ℕ
-  pub answered : HasReplied book txn reply refused ended
+  pub answered : HasReplied books.now txn reply refused ended
+  pub answered_then : HasReplied now txn reply refused ended
   pub in_order : AllInOrder (state_of before) added
 
 -- the release of a session: its statement that waits goes on; where none does, nothing happens
-abbrev pub ReleasesOne : List Entry → List Entry → Standing → Standing → List ℕ → Option Waiting → List ℕ → Bool → Type 0
-ReleasesOne start book before now name None output refused = (now ≡ before) × (output ≡ []) × (refused ≡ false)
-ReleasesOne start book before now name (Some waiting) output refused =
-    GoesOnHeld start book before.book now.book waiting.txn output refused × (now.waiting ≡ without name before.waiting)
+abbrev pub ReleasesOne : Change (List Entry) → Standing → Standing → List ℕ → Option Waiting → List ℕ → Bool → Type 0
+ReleasesOne books before now name None output refused = (now ≡ before) × (output ≡ []) × (refused ≡ false)
+ReleasesOne books before now name (Some waiting) output refused =
+    GoesOnHeld books before.book now.book waiting.txn output refused × (now.waiting ≡ without name before.waiting)
 
 abbrev pub session_line : List ℕ → List ℕ
 session_line name = line (codes "-- session " ++ name)
 
 -- by one action the run stands there, and this is printed
-abbrev pub IsDone : List Entry → List Entry → Standing → Standing → Action → List ℕ → Bool → Type 0
-IsDone start book before now (action.Announce session) output refused = (now ≡ before) × (output ≡ session_line session.name) × (refused ≡ false)
-IsDone start book before now (action.Run statement) output refused =
-    Replies start book before now (asking_of statement) statement.hold output refused
-    ⊎ IsPutOff start book before now (asking_of statement) statement.hold output refused
-IsDone start book before now (action.Release session) output refused =
-    ReleasesOne start book before now session.name (waiting_in session.name before.waiting) output refused
+abbrev pub IsDone : Change (List Entry) → Standing → Standing → Action → List ℕ → Bool → Type 0
+IsDone books before now (action.Announce session) output refused = (now ≡ before) × (output ≡ session_line session.name) × (refused ≡ false)
+IsDone books before now (action.Run statement) output refused =
+    Replies books before now (asking_of statement) statement.hold output refused
+    ⊎ IsPutOff books before now (asking_of statement) statement.hold output refused
+IsDone books before now (action.Release session) output refused =
+    ReleasesOne books before now session.name (waiting_in session.name before.waiting) output refused
 
 -- and by several, one after another
-abbrev pub AreDone : List Entry → List Entry → Standing → Standing → List Action → List ℕ → Bool → Type 0
-AreDone start book before now [] output refused = (now ≡ before) × (output ≡ []) × (refused ≡ false)
-AreDone start book before now (first ∷ more) output refused =
+abbrev pub AreDone : Change (List Entry) → Standing → Standing → List Action → List ℕ → Bool → Type 0
+AreDone books before now [] output refused = (now ≡ before) × (output ≡ []) × (refused ≡ false)
+AreDone books before now (first ∷ more) output refused =
     (between : Standing) × (reply : List ℕ) × (rest : List ℕ) × (this : Bool) × (later : Bool)
-    × IsDone start book before between first reply this × AreDone start book between now more rest later
+    × IsDone books before between first reply this × AreDone books between now more rest later
     × (output ≡ reply ++ rest) × (refused ≡ this || later)
 
 -- ---- one statement of a session after another
@@ -160,8 +165,8 @@ IsInTurn before (action.Run statement) = waiting_in statement.session.name befor
 IsInTurn before (action.Release session) = Unit {0}
 
 -- and so it was before each of these actions, as they were done: the last statement of the session had ended
-abbrev pub AreInTurn : (start book : List Entry) (before now : Standing) (actions : List Action) (output : List ℕ) (refused : Bool)
-    → AreDone start book before now actions output refused → Type 0
-AreInTurn start book before now [] output refused done = Unit {0}
-AreInTurn start book before now (first ∷ more) output refused done =
-    IsInTurn before first × AreInTurn start book done.0 now more done.2 done.4 done.6
+abbrev pub AreInTurn : (books : Change (List Entry)) (before now : Standing) (actions : List Action) (output : List ℕ) (refused : Bool)
+    → AreDone books before now actions output refused → Type 0
+AreInTurn books before now [] output refused done = Unit {0}
+AreInTurn books before now (first ∷ more) output refused done =
+    IsInTurn before first × AreInTurn books done.0 now more done.2 done.4 done.6

@@ -5,13 +5,13 @@ use Rattle.std.specs.List.{AllByRecursion}
 use Rattle.hv_shelf.specs.Disk.{Store}
 use Rattle.hv_history.specs.declared.entry.Entry.{Entry}
 use Rattle.hv_history.specs.State.{state_of}
-use Rattle.hv_session.specs.hv_steps.specs.hv_acts.specs.hv_telling.specs.hv_house.specs.declared.house.House.{House}
-use Rattle.hv_session.specs.hv_steps.specs.hv_acts.specs.hv_telling.specs.hv_house.specs.House.{entries_of}
-use Rattle.hv_session.specs.hv_steps.specs.hv_acts.specs.hv_telling.specs.Telling.{IsToldHouse}
-use Rattle.hv_session.specs.hv_steps.specs.hv_acts.specs.declared.told.ToldHouse.{ToldHouse}
+use Rattle.hv_session.specs.hv_steps.specs.hv_table_reader.specs.hv_acts.specs.hv_telling.specs.hv_house.specs.declared.house.House.{House}
+use Rattle.hv_session.specs.hv_steps.specs.hv_table_reader.specs.hv_acts.specs.hv_telling.specs.hv_house.specs.House.{entries_of}
+use Rattle.hv_session.specs.hv_steps.specs.hv_table_reader.specs.hv_acts.specs.hv_telling.specs.Telling.{IsToldHouse}
+use Rattle.hv_session.specs.hv_steps.specs.hv_table_reader.specs.hv_acts.specs.declared.told.ToldHouse.{ToldHouse}
 use Rattle.hv_session.specs.declared.paused.Paused.{Paused}
 use Rattle.hv_session.specs.Doing.{CanFinish}
-use Rattle.hv_session.specs.Taking.{IsHeldBySome, IsTrulyHeld}
+use Rattle.hv_session.specs.Taking.{IsHeldBySome, IsTrulyHeld, WasStopped}
 use Rattle.hv_program.specs.declared.held.Held.{Held}
 use Rattle.hv_program.specs.Doing.{Waiting, Standing}
 
@@ -47,19 +47,23 @@ abbrev pub AreInOrder : List Held → Type 0
 AreInOrder [] = Unit {0}
 AreInOrder (first ∷ more) = AllByRecursion (ComesBefore first) more × AreInOrder more
 
+-- it is held, or another statement has asked for its abort
 abbrev pub IsHeldIn : List Entry → Held → Type 0
-IsHeldIn book held = IsHeldBySome book held.paused
+IsHeldIn book held = IsHeldBySome book held.paused ⊎ WasStopped book held.paused.way.txn.0
 
--- whatever is told: each is held in this book, in the order in which they were opened; and where one is, no Lost fits any more
+-- whatever is told: each is held in this book or was stopped, in the order in which they were opened; and where one is, no Lost fits any more
 pub record AreHeld (book : List Entry) (helds : List Held) : Type 0 where
   pub each : AllByRecursion (IsHeldIn book) helds
   pub apart : AreInOrder helds
   pub begun : (helds ≡ []) ⊎ ((state_of book).openings.only_lost ≡ false)
 
-abbrev pub IsTrulyHeldIn : List Entry → Held → Type 0
-IsTrulyHeldIn book held = IsTrulyHeld book held.paused
+abbrev pub StandsTruly : List Entry → Paused → Type 0
+StandsTruly book paused = IsTrulyHeld book paused ⊎ WasStopped book paused.way.txn.0
 
--- in a told house each that is held will end as it means
+abbrev pub IsTrulyHeldIn : List Entry → Held → Type 0
+IsTrulyHeldIn book held = StandsTruly book held.paused
+
+-- in a told house each that is held will end as it means, unless it was stopped
 abbrev pub AreTrulyHeld : {D : Type 0} → (D → Option Store) → House D → List Held → Type 0
 AreTrulyHeld told house helds = IsToldHouse told house → AllByRecursion (IsTrulyHeldIn (entries_of house)) helds
 

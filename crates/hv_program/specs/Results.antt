@@ -10,9 +10,10 @@ use Rattle.hv_history.specs.Journal.{Reads}
 use Rattle.hv_journal.specs.Appending.{ReadsMore}
 use Rattle.hv_script.specs.declared.actions.Action.{Action}
 use Rattle.hv_stands.specs.Files.{Stands}
-use Rattle.hv_session.specs.hv_steps.specs.hv_acts.specs.hv_telling.specs.hv_house.specs.declared.boot.BootFault.TheVariants as fault
-use Rattle.hv_session.specs.hv_steps.specs.hv_acts.specs.hv_telling.specs.hv_house.specs.Booting.{opening_of, IsCutOpening}
-use Rattle.hv_session.specs.hv_steps.specs.hv_acts.specs.hv_telling.specs.Telling.{OpensLater}
+use Rattle.hv_session.specs.hv_steps.specs.hv_table_reader.specs.hv_acts.specs.hv_telling.specs.hv_house.specs.declared.boot.BootFault.TheVariants as fault
+use Rattle.hv_session.specs.hv_steps.specs.hv_table_reader.specs.hv_acts.specs.hv_telling.specs.hv_house.specs.Booting.{opening_of, IsCutOpening}
+use Rattle.hv_session.specs.hv_steps.specs.hv_table_reader.specs.hv_acts.specs.hv_telling.specs.Telling.{OpensLater}
+use Rattle.hv_program.specs.Change.{Change, from_to}
 use Rattle.hv_program.specs.Doing.{Standing, IsDone, AreDone}
 use Rattle.hv_program.specs.Own.{Grows}
 use Rattle.hv_program.specs.Running.{beginning, IsHalfway, AreFurther}
@@ -30,68 +31,68 @@ pub record HasBook (book : List Entry) (store : Store) : Type 0 where
 
 -- All actions were done: the replies of all of them were written, by the book that the store has now, and one of
 -- them is a refusal or none is.
-pub record IsServed (low high : ℕ) (start : List Entry) (actions : List Action) (written now : List ℕ) (store : Store) (refused : Bool) : Type 0 where
+pub record IsServed (faults : Change ℕ) (start : List Entry) (actions : List Action) (written : Change (List ℕ)) (store : Store) (refused : Bool) : Type 0 where
   pub last : Standing
-  pub is_book : IsBookOf low high start last.book
+  pub is_book : IsBookOf faults.was faults.now start last.book
   pub has_book : HasBook last.book store
   pub output : List ℕ
-  pub wrote : now ≡ written ++ output
-  pub are_done : AreDone start last.book (beginning start) last actions output refused
+  pub wrote : written.now ≡ written.was ++ output
+  pub are_done : AreDone (from_to start last.book) (beginning start) last actions output refused
 
 -- The replies of the actions in front of this one were written, and a front of its own reply. It was done; those
 -- behind it were not.
-pub record IsCutOff (low high : ℕ) (start : List Entry) (actions : List Action) (written now : List ℕ) (store : Store) : Type 0 where
+pub record IsCutOff (faults : Change ℕ) (start : List Entry) (actions : List Action) (written : Change (List ℕ)) (store : Store) : Type 0 where
   pub front : List Action
   pub action : Action
   pub behind : List Action
   pub actions_are : actions ≡ front ++ action ∷ behind
   pub before : Standing
   pub last : Standing
-  pub is_book : IsBookOf low high start last.book
+  pub is_book : IsBookOf faults.was faults.now start last.book
   pub has_book : HasBook last.book store
   pub output : List ℕ
   pub refused : Bool
-  pub are_done : AreDone start last.book (beginning start) before front output refused
+  pub are_done : AreDone (from_to start last.book) (beginning start) before front output refused
   pub reply : List ℕ
   pub this : Bool
-  pub is_done : IsDone start last.book before last action reply this
-  pub wrote : GainsPart reply (written ++ output) now
+  pub is_done : IsDone (from_to start last.book) before last action reply this
+  pub wrote : GainsPart reply (written.was ++ output) written.now
 
 -- The replies of the actions in front of this one were written. Its transaction has no end in the book; those behind it were not
 -- done. The store opens to the book, or to one that begins with it. `Keeps` says how the book stands in the journal, by where the run
 -- stood before the action.
-pub record IsStopped (low high : ℕ) (start : List Entry) (actions : List Action) (written now : List ℕ) (after : Store) (Keeps : Standing → Action → List Entry → Type 0) : Type 0 where
+pub record IsStopped (faults : Change ℕ) (start : List Entry) (actions : List Action) (written : Change (List ℕ)) (after : Store) (Keeps : Standing → Action → List Entry → Type 0) : Type 0 where
   pub front : List Action
   pub action : Action
   pub behind : List Action
   pub actions_are : actions ≡ front ++ action ∷ behind
   pub before : Standing
-  pub is_before : IsBookOf low high start before.book
+  pub is_before : IsBookOf faults.was faults.now start before.book
   pub book : List Entry
   pub halfway : IsHalfway before action book
   pub output : List ℕ
   pub refused : Bool
-  pub are_done : AreDone start book (beginning start) before front output refused
-  pub wrote : now ≡ written ++ output
+  pub are_done : AreDone (from_to start book) (beginning start) before front output refused
+  pub wrote : written.now ≡ written.was ++ output
   pub keeps : Keeps before action book
   pub opens : OpensLater book after
 
 -- No action was done, nothing was written, and no file was touched. The store opens again, to the book with a front of its opening.
-pub record IsUnopened (book : List Entry) (written now : List ℕ) (before after : Store) (Keeps : List ℕ → Type 0) : Type 0 where
-  pub wrote : now ≡ written
-  pub files : after.tree ≡ before.tree
-  pub keeps : Keeps after.journal
-  pub opens : OpensLater book after
+pub record IsUnopened (book : List Entry) (written : Change (List ℕ)) (stores : Change Store) (Keeps : List ℕ → Type 0) : Type 0 where
+  pub wrote : written.now ≡ written.was
+  pub files : stores.now.tree ≡ stores.was.tree
+  pub keeps : Keeps stores.now.journal
+  pub opens : OpensLater book stores.now
 
 -- the journal reads to the book
 abbrev pub ReadsTo : List ℕ → Standing → Action → List Entry → Type 0
 ReadsTo bytes before action book = Reads book bytes
 
 -- for want of memory
-abbrev pub StopsForMemory : ℕ → ℕ → List Entry → List Action → List ℕ → List ℕ → Store → Store → Type 0
-StopsForMemory low high before actions written now store store' =
-    IsStopped low high (opening_of before) actions written now store' (ReadsTo store'.journal)
-    ⊎ IsUnopened before written now store store' (IsCutOpening fault.NoMemory before)
+abbrev pub StopsForMemory : Change ℕ → List Entry → List Action → Change (List ℕ) → Change Store → Type 0
+StopsForMemory faults before actions written stores =
+    IsStopped faults (opening_of before) actions written stores.now (ReadsTo stores.now.journal)
+    ⊎ IsUnopened before written stores (IsCutOpening fault.NoMemory before)
 
 -- the journal reads to the book, or to the book and what further entries of a stopped action it may have
 abbrev pub ReadsFurther : List ℕ → Standing → Action → List Entry → Type 0
@@ -100,7 +101,7 @@ ReadsFurther bytes before action book =
 
 -- where the store failed: the journal reads to the book, or to the book with one further entry of the action's transaction, or with the
 -- two by which a statement begins
-abbrev pub StopsForStore : ℕ → ℕ → List Entry → List Action → List ℕ → List ℕ → Store → Store → Type 0
-StopsForStore low high before actions written now store store' =
-    IsStopped low high (opening_of before) actions written now store' (ReadsFurther store'.journal)
-    ⊎ IsUnopened before written now store store' (IsCutOpening fault.Store before)
+abbrev pub StopsForStore : Change ℕ → List Entry → List Action → Change (List ℕ) → Change Store → Type 0
+StopsForStore faults before actions written stores =
+    IsStopped faults (opening_of before) actions written stores.now (ReadsFurther stores.now.journal)
+    ⊎ IsUnopened before written stores (IsCutOpening fault.Store before)

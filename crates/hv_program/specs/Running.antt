@@ -5,6 +5,7 @@ use Rattle.hv_base.specs.Told.{Moves}
 use Rattle.hv_base.specs.Sink.{Gains, GainsPart}
 use Rattle.hv_shelf.specs.Disk.{Store}
 use Rattle.hv_history.specs.declared.entry.Entry.{Entry}
+use Rattle.hv_history.specs.declared.entry.Entry.TheVariants as entry
 use Rattle.hv_history.specs.State.{state_of}
 use Rattle.hv_history.specs.Legal.{AllFit, IsLegal, IsLegalFrom, profile}
 use Rattle.hv_history.specs.Journal.{Reads}
@@ -12,14 +13,16 @@ use Rattle.hv_script.specs.declared.actions.Action.{Action}
 use Rattle.hv_script.specs.declared.actions.Action.TheVariants as action
 use Rattle.hv_script.specs.declared.actions.Statement.{Statement}
 use Rattle.hv_stands.specs.Running.{next_number, AreOf}
-use Rattle.hv_session.specs.hv_steps.specs.hv_acts.specs.hv_telling.specs.hv_house.specs.declared.fault.HouseFault.{HouseFault}
-use Rattle.hv_session.specs.hv_steps.specs.hv_acts.specs.hv_telling.specs.hv_house.specs.declared.fault.HouseFault.TheVariants as fault
-use Rattle.hv_session.specs.hv_steps.specs.hv_acts.specs.hv_telling.specs.hv_house.specs.House.{BeginFits, beginning_of, IsFaithful, Leaves}
-use Rattle.hv_session.specs.hv_steps.specs.hv_acts.specs.hv_telling.specs.Telling.{OpensLater}
-use Rattle.hv_session.specs.hv_steps.specs.hv_acts.specs.Meant.{IsNoEnd}
+use Rattle.hv_session.specs.hv_steps.specs.hv_table_reader.specs.hv_acts.specs.hv_telling.specs.hv_house.specs.declared.fault.HouseFault.{HouseFault}
+use Rattle.hv_session.specs.hv_steps.specs.hv_table_reader.specs.hv_acts.specs.hv_telling.specs.hv_house.specs.declared.fault.HouseFault.TheVariants as fault
+use Rattle.hv_session.specs.hv_steps.specs.hv_table_reader.specs.hv_acts.specs.hv_telling.specs.hv_house.specs.House.{BeginFits, beginning_of, IsFaithful, Leaves}
+use Rattle.hv_session.specs.hv_steps.specs.hv_table_reader.specs.hv_acts.specs.hv_telling.specs.Telling.{OpensLater}
+use Rattle.hv_session.specs.hv_steps.specs.hv_table_reader.specs.hv_acts.specs.Meant.{IsNoEnd}
+use Rattle.hv_session.specs.hv_steps.specs.Phases.{BegunBy}
 use Rattle.hv_session.specs.Doing.{IsHold}
 use Rattle.hv_program.specs.declared.stop.Stop.{Stop}
 use Rattle.hv_program.specs.declared.stop.Stop.TheVariants as stop
+use Rattle.hv_program.specs.Change.{Change, from_to}
 use Rattle.hv_program.specs.Doing.{Waiting, Standing, waiting_in, asking_of, IsDone, AreDone}
 use Rattle.hv_program.specs.Own.{Grows}
 
@@ -52,7 +55,7 @@ pub record IsBehind (start : List Entry) (now : Standing) : Type 0 where
 -- the action was done, and this is its reply
 pub record Acts (low high : ℕ) (before now : Standing) (action : Action) (reply : List ℕ) (refused : Bool) : Type 0 where
   pub grows : Grows low high before.book now.book
-  pub done : (start : List Entry) → IsBehind start before → IsDone start now.book before now action reply refused
+  pub done : (start : List Entry) → IsBehind start before → IsDone (from_to start now.book) before now action reply refused
 
 -- the transaction of an action: of a statement the next one, and of a release that of the statement that waits
 abbrev pub txn_of_waiting : Waiting → ℕ
@@ -68,17 +71,39 @@ abbrev pub AreOfSome : Option ℕ → List Entry → Type 0
 AreOfSome None events = events ≡ []
 AreOfSome (Some txn) events = AreOf txn events
 
+-- none of them ends that transaction
+abbrev pub AreNoEnds : Option ℕ → List Entry → Type 0
+AreNoEnds None events = Unit {0}
+AreNoEnds (Some txn) events = AllByRecursion (IsNoEnd txn) events
+
+-- what was noted of a statement's action, where anything was, begins with its Opened: of its session, with its number and its text
+abbrev pub OpensOf : Action → List Entry → Type 0
+OpensOf (action.Run statement) added = BegunBy (asking_of statement) added
+OpensOf other added = Unit {0}
+
 -- the run stopped in this action: what was noted of it is legal behind the book, and doesn't end its transaction
 pub record IsHalfway (before : Standing) (action : Action) (now : List Entry) : Type 0 where
   pub added : List Entry
   pub book : now ≡ before.book ++ added
   pub of_it : AreOfSome (number_of before action) added
   pub legal : IsLegalFrom profile (state_of before.book) added
-  pub unended : AllByRecursion IsNoEnd added
+  pub unended : AreNoEnds (number_of before action) added
+  pub opens : OpensOf action added
+
+-- an Opened is that of the statement that was to be run: of its session, with its number and its text
+abbrev pub OpensFor : Entry → Action → Type 0
+OpensFor (entry.Opened txn session number text) (action.Run statement) =
+    (session ≡ (asking_of statement).session) × (number ≡ (asking_of statement).number) × (text ≡ (asking_of statement).text)
+OpensFor (entry.Opened txn session number text) other = ⊥
+OpensFor event act = Unit {0}
+
+abbrev pub IsOpenedFor : Action → Entry → Type 0
+IsOpenedFor act event = OpensFor event act
 
 -- the further entry that the journal may have, which fits behind the book
 pub record IsFurther (before : Standing) (action : Action) (book further : List Entry) : Type 0 where
   pub of_it : AreOfSome (number_of before action) further
+  pub opens : AllByRecursion (IsOpenedFor action) further
   pub few : length further ≤ 1
   pub fit : AllFit profile (state_of book) further
 
@@ -108,59 +133,59 @@ pub record Stops (why : HouseFault) (told : Option Store) (before : Standing) (a
 -- ---- several
 
 -- the run stands there by these actions, and their replies were written
-pub record Prints (low high : ℕ) (start : List Entry) (now : Standing) (actions : List Action) (sink sink' : Option (List ℕ)) (refused : Bool) : Type 0 where
-  pub grows : Grows low high start now.book
+pub record Prints (faults : Change ℕ) (start : List Entry) (now : Standing) (actions : List Action) (sinks : Change (Option (List ℕ))) (refused : Bool) : Type 0 where
+  pub grows : Grows faults.was faults.now start now.book
   pub later : AllByRecursion (IsLater start) now.waiting
   pub output : List ℕ
-  pub written : Moves (Gains output) sink sink'
-  pub are_done : AreDone start now.book (beginning start) now actions output refused
+  pub written : Moves (Gains output) sinks.was sinks.now
+  pub are_done : AreDone (from_to start now.book) (beginning start) now actions output refused
 
-abbrev pub PrintsAll : ℕ → ℕ → List Entry → List Entry → List Action → Option (List ℕ) → Option (List ℕ) → Bool → Type 0
-PrintsAll low high start book actions sink sink' refused =
-    (waiting : List Waiting) × Prints low high start (record { book = book; waiting = waiting }) actions sink sink' refused
+abbrev pub PrintsAll : Change ℕ → List Entry → List Entry → List Action → Change (Option (List ℕ)) → Bool → Type 0
+PrintsAll faults start book actions sinks refused =
+    (waiting : List Waiting) × Prints faults start (record { book = book; waiting = waiting }) actions sinks refused
 
 -- a front of the reply was written behind what was written before
 abbrev pub EndsWithin : List ℕ → List ℕ → List ℕ → List ℕ → Type 0
 EndsWithin output reply before now = GainsPart reply (before ++ output) now
 
 -- the sink failed in the reply of this action
-pub record CutsOff (low high : ℕ) (start book : List Entry) (actions : List Action) (sink sink' : Option (List ℕ)) : Type 0 where
+pub record CutsOff (faults : Change ℕ) (start book : List Entry) (actions : List Action) (sinks : Change (Option (List ℕ))) : Type 0 where
   pub front : List Action
   pub action : Action
   pub behind : List Action
   pub actions_are : actions ≡ front ++ action ∷ behind
   pub before : Standing
   pub waiting : List Waiting
-  pub grows : Grows low high start book
+  pub grows : Grows faults.was faults.now start book
   pub output : List ℕ
   pub refused : Bool
-  pub are_done : AreDone start book (beginning start) before front output refused
+  pub are_done : AreDone (from_to start book) (beginning start) before front output refused
   pub reply : List ℕ
   pub this : Bool
-  pub is_done : IsDone start book before (record { book = book; waiting = waiting }) action reply this
-  pub written : Moves (EndsWithin output reply) sink sink'
+  pub is_done : IsDone (from_to start book) before (record { book = book; waiting = waiting }) action reply this
+  pub written : Moves (EndsWithin output reply) sinks.was sinks.now
 
 -- the run stopped in this action, for this reason
-pub record StopsIn (why : HouseFault) (told : Option Store) (low high : ℕ) (start book : List Entry) (actions : List Action) (sink sink' : Option (List ℕ)) : Type 0 where
+pub record StopsIn (why : HouseFault) (told : Option Store) (faults : Change ℕ) (start book : List Entry) (actions : List Action) (sinks : Change (Option (List ℕ))) : Type 0 where
   pub front : List Action
   pub action : Action
   pub behind : List Action
   pub actions_are : actions ≡ front ++ action ∷ behind
   pub before : Standing
-  pub grows : Grows low high start before.book
+  pub grows : Grows faults.was faults.now start before.book
   pub legal : IsLegal profile before.book
   pub stops : Stops why told before action book
   pub output : List ℕ
   pub refused : Bool
-  pub are_done : AreDone start book (beginning start) before front output refused
-  pub written : Moves (Gains output) sink sink'
+  pub are_done : AreDone (from_to start book) (beginning start) before front output refused
+  pub written : Moves (Gains output) sinks.was sinks.now
 
 abbrev pub HasAll : List Entry → Store → Type 0
 HasAll book store = Reads book store.journal × IsFaithful book store
 
 -- the reasons for which a run stops, and what each leaves
-abbrev pub Halts : Stop → ℕ → ℕ → List Entry → List Entry → List Action → Option (List ℕ) → Option (List ℕ) → Option Store → Type 0
-Halts stop.Source low high start book actions sink sink' told = ⊥
-Halts stop.Sink low high start book actions sink sink' told = CutsOff low high start book actions sink sink' × IsSomeAnd told (HasAll book)
-Halts stop.Store low high start book actions sink sink' told = StopsIn fault.Store told low high start book actions sink sink' × IsSomeAnd told (OpensLater book)
-Halts stop.NoMemory low high start book actions sink sink' told = StopsIn fault.NoMemory told low high start book actions sink sink' × IsSomeAnd told (OpensLater book)
+abbrev pub Halts : Stop → Change ℕ → List Entry → List Entry → List Action → Change (Option (List ℕ)) → Option Store → Type 0
+Halts stop.Source faults start book actions sinks told = ⊥
+Halts stop.Sink faults start book actions sinks told = CutsOff faults start book actions sinks × IsSomeAnd told (HasAll book)
+Halts stop.Store faults start book actions sinks told = StopsIn fault.Store told faults start book actions sinks × IsSomeAnd told (OpensLater book)
+Halts stop.NoMemory faults start book actions sinks told = StopsIn fault.NoMemory told faults start book actions sinks × IsSomeAnd told (OpensLater book)

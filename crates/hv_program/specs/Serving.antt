@@ -11,8 +11,9 @@ use Rattle.hv_history.specs.State.{state_of}
 use Rattle.hv_history.specs.Legal.{load, profile}
 use Rattle.hv_recovery.specs.Recovery.{IsBadJournalAt}
 use Rattle.hv_script.specs.declared.actions.Action.{Action}
-use Rattle.hv_session.specs.hv_steps.specs.hv_acts.specs.hv_telling.specs.hv_house.specs.Booting.{opening_of, OpensTo, IsFullAt, CanOpen, HasNoBook, HasFullBook}
+use Rattle.hv_session.specs.hv_steps.specs.hv_table_reader.specs.hv_acts.specs.hv_telling.specs.hv_house.specs.Booting.{opening_of, OpensTo, IsFullAt, CanOpen, HasNoBook, HasFullBook}
 use Rattle.hv_program.specs.Lines.{journal_line, full_line}
+use Rattle.hv_program.specs.Change.{Change, from_to}
 use Rattle.hv_program.specs.Results.{IsServed, IsCutOff, StopsForMemory, StopsForStore}
 use Rattle.hv_program.specs.Refused.{is_one_of}
 
@@ -22,33 +23,33 @@ ran_status (Ok refused) = if refused then 1 else 0
 ran_status (Err stop) = status_of_stop stop
 
 -- a front of the line was written that the journal has no room, and the store is as it was
-pub record IsCutFull (book : List Entry) (written now : List ℕ) (before after : Store) : Type 0 where
+pub record IsCutFull (book : List Entry) (written : Change (List ℕ)) (stores : Change Store) : Type 0 where
   pub full : profile.entries < load (state_of book) + 1
-  pub wrote : GainsPart full_line written now
-  pub store_same : after ≡ before
+  pub wrote : GainsPart full_line written.was written.now
+  pub store_same : stores.now ≡ stores.was
 
 -- what was written, what the book has, and which files stand, by the status
-pub record ServedOf (status low high : ℕ) (book : List Entry) (actions : List Action) (written now : List ℕ) (before after : Store) : Type 0 where
-  pub accepted : status ≡ 0 → IsServed low high (opening_of book) actions written now after false
-  pub refused : status ≡ 1 → IsServed low high (opening_of book) actions written now after true
+pub record ServedOf (status : ℕ) (faults : Change ℕ) (book : List Entry) (actions : List Action) (written : Change (List ℕ)) (stores : Change Store) : Type 0 where
+  pub accepted : status ≡ 0 → IsServed faults (opening_of book) actions written stores.now false
+  pub refused : status ≡ 1 → IsServed faults (opening_of book) actions written stores.now true
   pub source : status ≡ 3 → ⊥
-  pub sink : status ≡ 4 → IsCutOff low high (opening_of book) actions written now after ⊎ IsCutFull book written now before after
-  pub store : status ≡ 5 → StopsForStore low high book actions written now before after
-  pub memory : status ≡ 7 → StopsForMemory low high book actions written now before after
+  pub sink : status ≡ 4 → IsCutOff faults (opening_of book) actions written stores.now ⊎ IsCutFull book written stores
+  pub store : status ≡ 5 → StopsForStore faults book actions written stores
+  pub memory : status ≡ 7 → StopsForMemory faults book actions written stores
 
--- what the sink and the store tell then
-pub record IsAfterServing (status low high : ℕ) (book : List Entry) (actions : List Action) (written : List ℕ) (before : Store) (sink : Option (List ℕ)) (told : Option Store) : Type 0 where
+-- the sink and the store tell, and of what they tell this is so
+pub record BothTell (sink : Option (List ℕ)) (told : Option Store) (Is : List ℕ → Store → Type 0) : Type 0 where
   pub now : List ℕ
   pub store : Store
   pub sink_tells : sink ≡ Some now
   pub store_tells : told ≡ Some store
-  pub served : ServedOf status low high book actions written now before store
+  pub served : Is now store
 
 -- over a store that opens to a book
-abbrev pub Serves : ℕ → ℕ → ℕ → List Action → Option (List ℕ) → Option (List ℕ) → Option Store → Option Store → Type 0
-Serves status low high actions sink sink' told told' =
-    (written : List ℕ) (store : Store) (book : List Entry) → sink ≡ Some written → told ≡ Some store → OpensTo book store
-    → IsAfterServing status low high book actions written store sink' told'
+abbrev pub Serves : ℕ → Change ℕ → List Action → Change (Option (List ℕ)) → Change (Option Store) → Type 0
+Serves status faults actions sinks told =
+    (written : List ℕ) (store : Store) (book : List Entry) → sinks.was ≡ Some written → told.was ≡ Some store → OpensTo book store
+    → BothTell sinks.now told.now (λ now after. ServedOf status faults book actions (from_to written now) (from_to store after))
 
 -- the sink and the store are blamed only where they failed
 pub record BlamesOf (status sink sink' store store' : ℕ) : Type 0 where

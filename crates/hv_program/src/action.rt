@@ -1,11 +1,12 @@
 ghost use Rattle.std.specs.Prelude.{◌≡◌, ◌≤◌, [], None, false, IfOk, IfErr};
 ghost use Rattle.hv_actor.specs.Acting.{IsLater};
-ghost use Rattle.hv_session.specs.hv_steps.specs.hv_acts.specs.Told.{seen_in};
+ghost use Rattle.hv_session.specs.hv_steps.specs.hv_table_reader.specs.hv_acts.specs.Told.{seen_in};
 ghost use Rattle.hv_script.specs.declared.actions.Action.TheVariants as action;
-ghost use Rattle.hv_session.specs.hv_steps.specs.hv_acts.specs.hv_telling.specs.hv_house.specs.Faults.{EndsRun, FileCause};
-ghost use Rattle.hv_session.specs.hv_steps.specs.hv_acts.specs.hv_telling.specs.hv_house.specs.House.{entries_of};
+ghost use Rattle.hv_session.specs.hv_steps.specs.hv_table_reader.specs.hv_acts.specs.hv_telling.specs.hv_house.specs.Faults.{EndsRun, FileCause};
+ghost use Rattle.hv_session.specs.hv_steps.specs.hv_table_reader.specs.hv_acts.specs.hv_telling.specs.hv_house.specs.House.{entries_of};
+ghost use Rattle.hv_session.specs.hv_steps.specs.hv_table_reader.specs.hv_acts.specs.hv_telling.specs.hv_house.specs.Housed.{ShutsHard};
 ghost use Rattle.hv_stands.specs.Running.{next_number};
-ghost use Rattle.hv_session.specs.hv_steps.specs.hv_acts.specs.hv_telling.specs.Telling.{IsWhole, IsToldHouse, StillOpens};
+ghost use Rattle.hv_session.specs.hv_steps.specs.hv_table_reader.specs.hv_acts.specs.hv_telling.specs.Telling.{IsWhole, IsToldHouse, StillOpens};
 ghost use Rattle.hv_session.specs.Doing.{CanFinishTaken};
 ghost use Rattle.hv_session.specs.hv_steps.specs.Ending.{AddsOf};
 ghost use Rattle.hv_session.specs.Taking.{asked_of, IsKeptIn, IsTakenAs};
@@ -13,14 +14,15 @@ ghost use Rattle.hv_session.specs.Ways.{StopsTaken};
 ghost use Rattle.hv_program.specs.Doing.{asking_of, session_line};
 ghost use Rattle.hv_program.specs.Keeping.{standing_of, AreHeld, AreTrulyHeld, CanAllFinish};
 ghost use Rattle.hv_program.specs.Running.{Acts, IsFine, IsShort, Stops};
+ghost use Rattle.hv_program.specs.Stops.{IsShutFor};
 
-use crate::alone::{finish_alone, own_reply, take_alone};
+use crate::alone::{finish_alone, take_alone};
 use crate::held::{Held, keep, let_go};
 use hv_base::{Duplicate, List, NoMemory, Text};
 use hv_script::{Action, Session, Statement};
-use hv_session::hv_steps::hv_acts::ToldHouse;
-use hv_session::hv_steps::hv_acts::hv_telling::hv_house::HouseFault;
-use hv_session::hv_steps::{Done, Reply};
+use hv_session::hv_steps::Reply;
+use hv_session::hv_steps::hv_table_reader::hv_acts::ToldHouse;
+use hv_session::hv_steps::hv_table_reader::hv_acts::hv_telling::hv_house::HouseFault;
 use hv_session::{Asking, Taken, memory_reply};
 use hv_shelf::Shelf;
 use std::alloc::Global;
@@ -72,6 +74,7 @@ fn take<D: Shelf + Drop>(
     statement: &Statement,
 ) -> Result<Taken, HouseFault>
     requires whole { IsWhole D.told house.old.house }
+    requires hard { ShutsHard D.hard (seen_in house.old) }
     requires short { IsShort statement.now }
     ensures whole { IfOk result (λ _. IsWhole D.told house.new.house) }
     ensures added { IfOk result (λ _. AddsOf (next_number (entries_of house.old.house))
@@ -87,10 +90,12 @@ fn take<D: Shelf + Drop>(
     ensures opens { IsToldHouse D.told house.old.house → IfErr result (λ _. StillOpens D.told house.new.house) }
     ensures ends { IfErr result EndsRun }
     ensures cause { FileCause (D.faults house.old.house.shelf) (D.faults house.new.house.shelf) result }
+    ensures hard { ShutsHard D.hard (seen_in house.new) }
+    ensures shut { IfErr result (IsShutFor house.new) }
 {
     match asking_of(alloc, statement) {
         Ok(asking) => take_alone(alloc, house, asking),
-        Err(NoMemory) => Ok(Taken::Ended(Done::Replied(memory_reply(alloc)?))),
+        Err(NoMemory) => Ok(Taken::Replied(memory_reply(alloc)?)),
     }
 }
 
@@ -102,6 +107,7 @@ fn run_statement<D: Shelf + Drop>(
     statement: &Statement,
 ) -> Result<Reply, HouseFault>
     requires whole { IsWhole D.told house.old.house }
+    requires hard { ShutsHard D.hard (seen_in house.old) }
     requires held { AreHeld (entries_of house.old.house) held.old.items }
     requires truly { AreTrulyHeld D.told house.old.house held.old.items }
     requires can { CanAllFinish D.told house.old held.old.items }
@@ -120,11 +126,13 @@ fn run_statement<D: Shelf + Drop>(
     ensures opens { IsToldHouse D.told house.old.house → IfErr result (λ _. StillOpens D.told house.new.house) }
     ensures ends { IfErr result EndsRun }
     ensures cause { FileCause (D.faults house.old.house.shelf) (D.faults house.new.house.shelf) result }
+    ensures hard { ShutsHard D.hard (seen_in house.new) }
+    ensures shut { IfErr result (IsShutFor house.new) }
 {
     let session = statement.session.name.duplicate(alloc)?;
     held.reserve(1)?;
     match take(alloc, house, statement)? {
-        Taken::Ended(found) => Ok(own_reply(found)),
+        Taken::Replied(found) => Ok(found),
         Taken::Kept(paused) => {
             keep(held, Held { session, paused });
             Ok(nothing(alloc))
@@ -140,6 +148,7 @@ fn release<D: Shelf + Drop>(
     session: &Session,
 ) -> Result<Reply, HouseFault>
     requires whole { IsWhole D.told house.old.house }
+    requires hard { ShutsHard D.hard (seen_in house.old) }
     requires held { AreHeld (entries_of house.old.house) held.old.items }
     requires truly { AreTrulyHeld D.told house.old.house held.old.items }
     requires can { CanAllFinish D.told house.old held.old.items }
@@ -157,6 +166,8 @@ fn release<D: Shelf + Drop>(
     ensures opens { IsToldHouse D.told house.old.house → IfErr result (λ _. StillOpens D.told house.new.house) }
     ensures ends { IfErr result EndsRun }
     ensures cause { FileCause (D.faults house.old.house.shelf) (D.faults house.new.house.shelf) result }
+    ensures hard { ShutsHard D.hard (seen_in house.new) }
+    ensures shut { IfErr result (IsShutFor house.new) }
 {
     match let_go(held, &session.name) {
         Some(paused) => finish_alone(alloc, house, paused),
@@ -172,6 +183,7 @@ pub fn act<D: Shelf + Drop>(
     action: &Action,
 ) -> Result<Reply, HouseFault>
     requires whole { IsWhole D.told house.old.house }
+    requires hard { ShutsHard D.hard (seen_in house.old) }
     requires held { AreHeld (entries_of house.old.house) held.old.items }
     requires truly { AreTrulyHeld D.told house.old.house held.old.items }
     requires can { CanAllFinish D.told house.old held.old.items }
@@ -190,6 +202,8 @@ pub fn act<D: Shelf + Drop>(
     ensures opens { IsToldHouse D.told house.old.house → IfErr result (λ _. StillOpens D.told house.new.house) }
     ensures ends { IfErr result EndsRun }
     ensures cause { FileCause (D.faults house.old.house.shelf) (D.faults house.new.house.shelf) result }
+    ensures hard { ShutsHard D.hard (seen_in house.new) }
+    ensures shut { IfErr result (IsShutFor house.new) }
 {
     match action {
         Action::Run(statement) => run_statement(alloc, house, held, statement),

@@ -1,20 +1,22 @@
 //! A statement of a session, over a house on which nobody else acts: all that is promised of it then.
 ghost use Rattle.std.specs.Prelude.{◌≡◌, ◌≤◌, length, IfOk, IfErr};
 ghost use Rattle.hv_actor.specs.Acting.{IsLater};
-ghost use Rattle.hv_session.specs.hv_steps.specs.hv_acts.specs.Told.{seen_in};
-ghost use Rattle.hv_session.specs.hv_steps.specs.hv_acts.specs.hv_telling.specs.hv_house.specs.Faults.{EndsRun, FileCause};
-ghost use Rattle.hv_session.specs.hv_steps.specs.hv_acts.specs.hv_telling.specs.hv_house.specs.House.{entries_of};
+ghost use Rattle.hv_session.specs.hv_steps.specs.hv_table_reader.specs.hv_acts.specs.Told.{seen_in};
+ghost use Rattle.hv_session.specs.hv_steps.specs.hv_table_reader.specs.hv_acts.specs.hv_telling.specs.hv_house.specs.Faults.{EndsRun, FileCause};
+ghost use Rattle.hv_session.specs.hv_steps.specs.hv_table_reader.specs.hv_acts.specs.hv_telling.specs.hv_house.specs.House.{entries_of};
+ghost use Rattle.hv_session.specs.hv_steps.specs.hv_table_reader.specs.hv_acts.specs.hv_telling.specs.hv_house.specs.Housed.{ShutsHard};
 ghost use Rattle.hv_stands.specs.Running.{next_number};
-ghost use Rattle.hv_session.specs.hv_steps.specs.hv_acts.specs.hv_telling.specs.Telling.{IsWhole, IsToldHouse, StillOpens};
-ghost use Rattle.hv_session.specs.hv_steps.specs.declared.reply.Done.TheVariants as done;
+ghost use Rattle.hv_session.specs.hv_steps.specs.hv_table_reader.specs.hv_acts.specs.hv_telling.specs.Telling.{IsWhole, IsToldHouse, StillOpens};
 ghost use Rattle.hv_session.specs.Doing.{IsHold, CanFinish, CanFinishTaken};
 ghost use Rattle.hv_session.specs.hv_steps.specs.Ending.{AddsOf, HasStopped};
-ghost use Rattle.hv_session.specs.Taking.{asked_of, IsHeldBySome, IsTrulyHeld, IsKeptIn, IsTakenAs, IsFinished};
-ghost use Rattle.hv_session.specs.Ways.{IsOwnEnd, StopsTaken};
+ghost use Rattle.hv_session.specs.Taking.{asked_of, IsKeptIn, IsTakenAs, IsFinished};
+ghost use Rattle.hv_session.specs.Ways.{StopsTaken};
+ghost use Rattle.hv_program.specs.Keeping.{StandsTruly};
+ghost use Rattle.hv_program.specs.Stops.{IsShutFor};
 
-use hv_session::hv_steps::hv_acts::ToldHouse;
-use hv_session::hv_steps::hv_acts::hv_telling::hv_house::HouseFault;
-use hv_session::hv_steps::{Done, Reply};
+use hv_session::hv_steps::Reply;
+use hv_session::hv_steps::hv_table_reader::hv_acts::ToldHouse;
+use hv_session::hv_steps::hv_table_reader::hv_acts::hv_telling::hv_house::HouseFault;
 use hv_session::{Asking, How, Paused, Taken, finish, take_up};
 use hv_shelf::Shelf;
 use std::alloc::Global;
@@ -25,17 +27,6 @@ const HOW: How = How {
     workers: 1,
 };
 
-/// The reply of a statement that nobody else ended.
-pub fn own_reply(found: Done) -> Reply
-    requires own { IsOwnEnd found }
-    ensures reply { found ≡ done.Replied result }
-{
-    match found {
-        Done::Replied(reply) => reply,
-        Done::Gone { .. } => unreachable!(),
-    }
-}
-
 /// Takes up a statement.
 pub fn take_alone<D: Shelf + Drop>(
     alloc: Global,
@@ -43,6 +34,7 @@ pub fn take_alone<D: Shelf + Drop>(
     asking: Asking,
 ) -> Result<Taken, HouseFault>
     requires whole { IsWhole D.told house.old.house }
+    requires hard { ShutsHard D.hard (seen_in house.old) }
     requires short { length asking.text ≤ 32768 }
     requires named { length asking.session ≤ 32 }
     requires hold { IsHold asking.hold }
@@ -60,20 +52,22 @@ pub fn take_alone<D: Shelf + Drop>(
     ensures opens { IsToldHouse D.told house.old.house → IfErr result (λ _. StillOpens D.told house.new.house) }
     ensures ends { IfErr result EndsRun }
     ensures cause { FileCause (D.faults house.old.house.shelf) (D.faults house.new.house.shelf) result }
+    ensures hard { ShutsHard D.hard (seen_in house.new) }
+    ensures shut { IfErr result (IsShutFor house.new) }
 {
     take_up(alloc, house, asking, HOW)
 }
 
-/// Does a held statement to its end.
+/// Does a held statement to its end, or says that another statement has stopped it.
 pub fn finish_alone<D: Shelf + Drop>(
     alloc: Global,
     house: &mut ToldHouse<D>,
     paused: Paused,
 ) -> Result<Reply, HouseFault>
     requires whole { IsWhole D.told house.old.house }
+    requires hard { ShutsHard D.hard (seen_in house.old) }
     requires can { CanFinish D.told house.old paused }
-    requires held { IsHeldBySome (entries_of house.old.house) paused }
-    requires truly { IsToldHouse D.told house.old.house → IsTrulyHeld (entries_of house.old.house) paused }
+    requires truly { IsToldHouse D.told house.old.house → StandsTruly (entries_of house.old.house) paused }
     ensures whole { IfOk result (λ _. IsWhole D.told house.new.house) }
     ensures added { IfOk result (λ _. AddsOf paused.way.txn.0
         (D.faults house.old.house.shelf) (D.faults house.new.house.shelf)
@@ -86,9 +80,8 @@ pub fn finish_alone<D: Shelf + Drop>(
     ensures opens { IsToldHouse D.told house.old.house → IfErr result (λ _. StillOpens D.told house.new.house) }
     ensures ends { IfErr result EndsRun }
     ensures cause { FileCause (D.faults house.old.house.shelf) (D.faults house.new.house.shelf) result }
+    ensures hard { ShutsHard D.hard (seen_in house.new) }
+    ensures shut { IfErr result (IsShutFor house.new) }
 {
-    match finish(alloc, house, paused) {
-        Ok(found) => Ok(own_reply(found)),
-        Err(why) => Err(why),
-    }
+    finish(alloc, house, paused)
 }

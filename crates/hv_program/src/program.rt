@@ -1,7 +1,9 @@
 ghost use Rattle.std.specs.Prelude.{◌≡◌, ◌≤◌, [], ◌∷◌, length, map};
 ghost use Rattle.std.specs.List.{AllByRecursion};
 ghost use Rattle.std.specs.String.{string_bytes};
+ghost use Rattle.hv_base.specs.Faults.{Rose};
 ghost use Rattle.hv_base.specs.Told.{StaysTold};
+ghost use Rattle.hv_program.specs.Change.{from_to};
 ghost use Rattle.hv_program.specs.Headline.{Headline};
 ghost use Rattle.hv_program.specs.Lines.{script_line, journal_line, full_line};
 ghost use Rattle.hv_program.specs.Refused.{is_one_of, Refuses};
@@ -14,8 +16,8 @@ use crate::run::run;
 use crate::stop::Stop;
 use hv_base::{Gate, Limits, Sink, Source, write_all};
 use hv_script::{Action, MAX_SCRIPT, ScriptFault, read_actions, read_run};
-use hv_session::hv_steps::hv_acts::ToldHouse;
-use hv_session::hv_steps::hv_acts::hv_telling::hv_house::{BootFault, House};
+use hv_session::hv_steps::hv_table_reader::hv_acts::ToldHouse;
+use hv_session::hv_steps::hv_table_reader::hv_acts::hv_telling::hv_house::{BootFault, House};
 use hv_shelf::Shelf;
 use std::alloc::Global;
 use std::sync::Wait;
@@ -99,12 +101,13 @@ fn serve<O: Sink, D: Shelf + Drop>(
     actions: &[Action],
 ) -> Ended<D>
     requires fine { AllByRecursion IsFine actions.now }
-    ensures served { Serves result.status (D.faults shelf) (D.faults result.shelf) actions.now (O.written sink.old)
-        (O.written sink.new) (D.told shelf) (D.told result.shelf) }
+    ensures served { Serves result.status (from_to (D.faults shelf) (D.faults result.shelf)) actions.now
+        (from_to (O.written sink.old) (O.written sink.new)) (from_to (D.told shelf) (D.told result.shelf)) }
     ensures opened { Opens (O.written sink.old) (O.written sink.new)
         (D.told shelf) (D.told result.shelf) result.status }
     ensures blames { BlamesOf result.status (O.faults sink.old) (O.faults sink.new)
         (D.faults shelf) (D.faults result.shelf) }
+    ensures hard { result.status ≡ 5 → Rose (D.hard shelf) (D.hard result.shelf) }
     ensures heard { StaysTold (O.written sink.old) (O.written sink.new) }
 {
     match House::boot(alloc, shelf, LIMITS) {
@@ -166,19 +169,31 @@ pub fn hive<R: Threads + Wait + Sync, I: Source, O: Sink, D: Shelf + Send + Drop
           store = D.told result.shelf;
         }) result.status }
     ensures faults { HasCauses
-        (record { source = I.faults source.old; sink = O.faults sink.old; store = D.faults shelf })
+        (record {
+          source = I.faults source.old;
+          sink = O.faults sink.old;
+          store = D.faults shelf;
+          hard = D.hard shelf;
+        })
         (record {
           source = I.faults source.new;
           sink = O.faults sink.new;
           store = D.faults result.shelf;
+          hard = D.hard result.shelf;
         }) result.status }
     ensures complete { Completes (map string_bytes words.now)
         (record { source = I.left source.old; sink = O.written sink.old; store = D.told shelf })
-        (record { source = I.faults source.old; sink = O.faults sink.old; store = D.faults shelf })
+        (record {
+          source = I.faults source.old;
+          sink = O.faults sink.old;
+          store = D.faults shelf;
+          hard = D.hard shelf;
+        })
         (record {
           source = I.faults source.new;
           sink = O.faults sink.new;
           store = D.faults result.shelf;
+          hard = D.hard result.shelf;
         }) result.status }
 {
     if read_run(words).is_none() {

@@ -30,19 +30,19 @@ use Rattle.hv_trail.specs.Trail.{book_of, state_at}
 use Rattle.hv_trail.proofs.LastingLaws.{book-append}
 use Rattle.hv_meta.specs.States.{state_in}
 use Rattle.hv_law_next.specs.Order.{CauseInOrder, IsInOrder, AllInOrder}
-use Rattle.hv_actor.specs.Acting.{IsAlone}
-use Rattle.hv_steps.specs.hv_acts.specs.hv_telling.specs.hv_house.specs.declared.fault.HouseFault.{HouseFault}
-use Rattle.hv_steps.specs.hv_acts.specs.hv_telling.specs.hv_house.specs.declared.fault.HouseFault.TheVariants as fault
-use Rattle.hv_steps.specs.hv_acts.specs.hv_telling.specs.hv_house.specs.House.{entries_of, Leaves, BeginFits, beginning_of}
-use Rattle.hv_steps.specs.hv_acts.specs.hv_telling.specs.hv_house.specs.Asking.{CanBegin, holder_against}
-use Rattle.hv_steps.specs.hv_acts.specs.hv_telling.specs.hv_house.proofs.Beginning.{load-behind-opened, holder-behind-opened}
-use Rattle.hv_steps.specs.hv_acts.specs.hv_telling.proofs.Told.{told-stays}
-use Rattle.hv_steps.specs.hv_acts.specs.declared.told.ToldHouse.{ToldHouse}
-use Rattle.hv_steps.specs.hv_acts.specs.Told.{IsWholeOrClosed, trail_in, book_in}
-use Rattle.hv_steps.specs.hv_acts.specs.Answers.{HasNotEnded}
-use Rattle.hv_steps.specs.hv_acts.specs.Starting.{IsShort, IsInItsWay}
-use Rattle.hv_steps.specs.hv_acts.proofs.Steps.{book-is}
-use Rattle.hv_steps.specs.hv_acts.proofs.RunsOn.{waits-unended}
+use Rattle.hv_actor.specs.Acting.{IsAlone, known}
+use Rattle.hv_steps.specs.hv_table_reader.specs.hv_acts.specs.hv_telling.specs.hv_house.specs.declared.fault.HouseFault.{HouseFault}
+use Rattle.hv_steps.specs.hv_table_reader.specs.hv_acts.specs.hv_telling.specs.hv_house.specs.declared.fault.HouseFault.TheVariants as fault
+use Rattle.hv_steps.specs.hv_table_reader.specs.hv_acts.specs.hv_telling.specs.hv_house.specs.House.{entries_of, Leaves, BeginFits, beginning_of}
+use Rattle.hv_steps.specs.hv_table_reader.specs.hv_acts.specs.hv_telling.specs.hv_house.specs.Asking.{CanBegin, holder_against}
+use Rattle.hv_steps.specs.hv_table_reader.specs.hv_acts.specs.hv_telling.specs.hv_house.proofs.Beginning.{load-behind-opened, holder-behind-opened}
+use Rattle.hv_steps.specs.hv_table_reader.specs.hv_acts.specs.hv_telling.proofs.Told.{told-stays}
+use Rattle.hv_steps.specs.hv_table_reader.specs.hv_acts.specs.declared.told.ToldHouse.{ToldHouse}
+use Rattle.hv_steps.specs.hv_table_reader.specs.hv_acts.specs.Told.{IsWholeOrClosed, trail_in, book_in}
+use Rattle.hv_steps.specs.hv_table_reader.specs.hv_acts.specs.Answers.{HasNotEnded}
+use Rattle.hv_steps.specs.hv_table_reader.specs.hv_acts.specs.Starting.{IsShort, IsInItsWay}
+use Rattle.hv_steps.specs.hv_table_reader.specs.hv_acts.proofs.Steps.{book-is}
+use Rattle.hv_steps.specs.hv_table_reader.specs.hv_acts.proofs.RunsOn.{waits-unended}
 use Rattle.hv_steps.specs.Ending.{HasStopped, HasReplied, IsUndamaged, aborting}
 use Rattle.hv_steps.specs.declared.ready.Reply.{Reply}
 use Rattle.hv_steps.specs.declared.ready.Way.{Way}
@@ -51,7 +51,7 @@ use Rattle.hv_steps.specs.declared.reply.Done.TheVariants as done
 use Rattle.hv_steps.specs.declared.reply.Opened.{Opened}
 use Rattle.hv_steps.specs.declared.reply.Opened.TheVariants as opened_as
 use Rattle.hv_steps.specs.Going.{IsOpenHouse, AddsOwn, IsGone}
-use Rattle.hv_steps.specs.Phases.{WasSoBetween, OpensAt, IsHinderedBefore, IsNextAt, BeginsAt, StartsAt, IsStoppedAt, NeverStarts, HasBegun, HasNotBegun, Begins, IsShutBeginning}
+use Rattle.hv_steps.specs.Phases.{WasSoBetween, OpensAt, IsHinderedBefore, IsNextAt, BeginsAt, StartsAt, IsStoppedAt, NeverStarts, HasBegun, HasNotBegun, Begins, IsShutBeginning, IsShutOpening, BegunBy}
 use Rattle.hv_session.specs.Taking.{IsWhyNot}
 use Rattle.hv_session.specs.Alone.{AddsNothing, HasGained}
 use Rattle.hv_session.specs.Ways.{HasStarted, IsTurnedAway, IsAnswered, BeginsSo, IsPart, IsTaking, BeginsAlone, HaltsAlone}
@@ -108,6 +108,9 @@ fits-of s (entry.Opened id session number text) txn fits whose = inl (sym (one_v
 fits-of s (entry.Start id statement) txn fits whose = there s id.0 txn (StartFits profile s statement) whose fits
 fits-of s (entry.Given id table write) txn fits whose = there s id.0 txn (GivenFits profile s table.0 write.0) whose fits
 fits-of s (entry.Commit id wrote) txn fits whose = there s id.0 txn (CommitFits s wrote) whose fits
+fits-of s (entry.Abort id (cause.Request by_)) txn fits whose =
+    let here = found (CauseFits profile s id.0 (cause.Request by_)) (numbered s.transactions id.0) fits in
+    there s by_.0 txn _ whose here.2.asks
 fits-of s (entry.Abort id why) txn fits whose = there s id.0 txn (CauseFits profile s id.0 why) whose fits
 fits-of s (entry.Create id table) txn fits whose = there s id.0 txn (CreateFits s table.0) whose fits
 fits-of s (entry.Drop id table) txn fits whose = there s id.0 txn (DropFits s table.0) whose fits
@@ -283,14 +286,20 @@ module _ (book : List Entry) (asking : Asking) (said : Stmt) (runs : Runs asking
   -- the abort for that comes in order
   why-in-order : (why : Cause) → IsWhyNot book said why → IsInOrder (state_of opened_book) (aborting (next_number book) why)
   why-in-order (cause.Blocked holder) is =
-      of-waiting opened_book asking (next_number book) said waits (CauseInOrder (state_of opened_book) (cause.Blocked holder)) tt
+      of-waiting opened_book asking (next_number book) said waits (CauseInOrder (state_of opened_book) (next_number book) (cause.Blocked holder)) tt
   why-in-order cause.Full is =
-      of-waiting opened_book asking (next_number book) said waits (CauseInOrder (state_of opened_book) cause.Full) (λ unstarted. held-here ∙ is.0)
-  why-in-order cause.Memory is = of-waiting opened_book asking (next_number book) said waits (CauseInOrder (state_of opened_book) cause.Memory) tt
+      of-waiting opened_book asking (next_number book) said waits (CauseInOrder (state_of opened_book) (next_number book) cause.Full) (λ unstarted. held-here ∙ is.0)
+  why-in-order cause.Memory is = of-waiting opened_book asking (next_number book) said waits (CauseInOrder (state_of opened_book) (next_number book) cause.Memory) tt
   why-in-order why is = absurd is
 
   turned-in-order : (why : Cause) → IsWhyNot book said why → AllInOrder (state_of book) (opening book asking ∷ aborting (next_number book) why ∷ [])
   turned-in-order why is = opened-in-order book asking (aborting (next_number book) why ∷ []) (why-in-order why is, tt)
+
+pub why-own : (book : List Entry) (said : Stmt) (txn : ℕ) (why : Cause) → IsWhyNot book said why → IsOf txn (aborting txn why)
+why-own book said txn (cause.Blocked holder) is = refl
+why-own book said txn cause.Full is = refl
+why-own book said txn cause.Memory is = refl
+why-own book said txn why is = absurd is
 
 why-undamaged : (book : List Entry) (said : Stmt) (txn : ℕ) (why : Cause) → IsWhyNot book said why → IsUndamaged (aborting txn why)
 why-undamaged book said txn (cause.Blocked holder) is = tt
@@ -381,10 +390,10 @@ module _ {D : Type 0} (before now : ToldHouse D) (fit : AllFit profile nothing_y
 
   turned-so : (found : Done) (added : List Entry) → last_book ≡ first_book ++ added → HasNotBegun before now asking said found added
       → IsTurnedAway first_book last_book asking said found × IsAnswered last_book (next_number first_book) found
-  turned-so (done.Gone at) added book begun =
+  turned-so (done.Gone reply) added book begun =
       let whole : last_book ≡ first_book ++ begun.event ∷ [] = book ∙ ap (λ (xs : List Entry). first_book ++ xs) begun.ends.0 in
       let here = opens-here before now asking begun.txn begun.event [] fit whole begun.was_opened in
-      absurd (never-gone begun.txn at begun.runs here.txn_is (whole ∙ ap (λ (event : Entry). first_book ++ event ∷ []) here.event_is) begun.ends.1)
+      absurd (never-gone begun.txn begun.ends.1.at begun.runs here.txn_is (whole ∙ ap (λ (event : Entry). first_book ++ event ∷ []) here.event_is) begun.ends.1.gone)
   turned-so (done.Replied reply) added book begun =
       let last : Entry = begun.ends.0 in
       let never : NeverStarts before now begun.txn said last reply = begun.ends.2 in
@@ -463,7 +472,8 @@ module _ {D : Type 0} (told : D → Option Store) (faults : D → ℕ) (B : List
             was ∙ ap next_number (between.at_is ∙ ap (λ (xs : List Entry). first ++ xs) empty ∙ append-nil first)
 
     stops-beginning : {T : Type 0} (asking : Asking) (own own' : List ℕ) (before now : ToldHouse D) → IsOpenHouse before → IsWholeOrClosed told now.house
-        → AddsOwn faults B own own' before now [] → IsShutBeginning told asking now → IsTaking {T = T} told faults asking before.house now.house (Err fault.Store)
+        → AddsOwn faults B 0 (known own before) (known own' now) [] → IsShutBeginning told asking now
+        → IsTaking {T = T} told faults asking before.house now.house (Err fault.Store)
     stops-beginning asking own own' before now running kept adds shut =
         let gained : HasGained faults before now [] = adds-alone faults B none own own' before now [] adds in
         let same : entries_of now.house ≡ entries_of before.house = gained.book ∙ append-nil (entries_of before.house) in
@@ -471,12 +481,33 @@ module _ {D : Type 0} (told : D → Option Store) (faults : D → ℕ) (B : List
         record {
           done = tt;
           start = gained.start;
-          stopped = inr (record {
+          stopped = inr (inl (record {
             book = same;
             fits = subst (λ (b : List Entry). BeginFits b asking) there_ shut.cut.fits;
             leaves = subst (λ (b : List Entry). Leaves fault.Store (beginning_of (entries_of before.house) asking) (told now.house.shelf) b) (sym same)
                 (subst (λ (b : List Entry). Leaves fault.Store (beginning_of b asking) (told now.house.shelf) b) there_ shut.cut.leaves);
-          });
+          }));
+          opens = λ is. kept.opens (told-stays told before.house now.house gained.start is);
+          ends = tt;
+          cause = record { later = gained.later; failed = adds.later.rises running shut.is };
+        }
+
+    stops-opening : {T : Type 0} (asking : Asking) (own own' : List ℕ) (before now : ToldHouse D) → IsOpenHouse before → IsWholeOrClosed told now.house
+        → AddsOwn faults B 0 (known own before) (known own' now) [] → IsShutOpening told asking now
+        → IsTaking {T = T} told faults asking before.house now.house (Err fault.Store)
+    stops-opening asking own own' before now running kept adds shut =
+        let gained : HasGained faults before now [] = adds-alone faults B none own own' before now [] adds in
+        let same : entries_of now.house ≡ entries_of before.house = gained.book ∙ append-nil (entries_of before.house) in
+        let there_ : book_in shut.house ≡ entries_of before.house = ap book_of (sym shut.same) ∙ book-is now.house ∙ same in
+        record {
+          done = tt;
+          start = gained.start;
+          stopped = inr (inr (record {
+            book = same;
+            fits = subst (λ (b : List Entry). Fits profile (state_of b) (opening b asking)) there_ shut.cut.fits;
+            leaves = subst (λ (b : List Entry). Leaves fault.Store (opening (entries_of before.house) asking ∷ []) (told now.house.shelf) b) (sym same)
+                (subst (λ (b : List Entry). Leaves fault.Store (opening b asking ∷ []) (told now.house.shelf) b) there_ shut.cut.leaves);
+          }));
           opens = λ is. kept.opens (told-stays told before.house now.house gained.start is);
           ends = tt;
           cause = record { later = gained.later; failed = adds.later.rises running shut.is };
@@ -487,9 +518,15 @@ module _ {D : Type 0} (told : D → Option Store) (faults : D → ℕ) (B : List
         let txn : ℕ = halts.0 in
         let part : IsPart {T = T} told faults txn before.house now.house (Err why) =
         parts-alone told faults B none meanwhile alone T txn own own' before now (λ (x : T) (added : List Entry). Unit {0}) (Err why) running kept
-        (record { done = tt; halted = halts.2 }) in
+        (record { done = tt; halted = halts.2.stop }) in
+        let gained : HasGained faults before now halts.2.stop.added = adds-alone faults B none own own' before now halts.2.stop.added halts.2.stop.adds in
         part-taking told faults asking before.house now.house (Err why)
         (subst (λ (n : ℕ). IsPart {T = T} told faults n before.house now.house (Err why)) (halts-number txn why before now halts.1 part.stopped) part)
-    halts-alone T asking own own' before now why running kept (inr shut) =
+        (λ added is.
+        subst (BegunBy asking) (append_cancel_left (entries_of before.house) halts.2.stop.added added (sym gained.book ∙ is)) halts.2.begun_by)
+    halts-alone T asking own own' before now why running kept (inr (inl shut)) =
         subst (λ (w : HouseFault). IsTaking {T = T} told faults asking before.house now.house (Err w)) (sym shut.0)
-        (stops-beginning {T = T} asking own own' before now running kept shut.1 shut.2)
+        (stops-beginning {T = T} asking own own' before now running kept (shut.1 0) shut.2)
+    halts-alone T asking own own' before now why running kept (inr (inr shut)) =
+        subst (λ (w : HouseFault). IsTaking {T = T} told faults asking before.house now.house (Err w)) (sym shut.0)
+        (stops-opening {T = T} asking own own' before now running kept (shut.1 0) shut.2)

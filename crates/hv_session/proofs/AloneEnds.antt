@@ -22,25 +22,25 @@ use Rattle.hv_stands.proofs.Fitting.{cause-open}
 use Rattle.hv_trail.specs.declared.trail.TrailItem.{TrailItem}
 use Rattle.hv_trail.specs.Trail.{book_of, state_at}
 use Rattle.hv_meta.specs.States.{state_in}
-use Rattle.hv_steps.specs.hv_acts.specs.hv_telling.specs.hv_house.specs.House.{entries_of}
-use Rattle.hv_steps.specs.hv_acts.specs.hv_telling.proofs.Told.{told-stays}
-use Rattle.hv_steps.specs.hv_acts.specs.declared.told.ToldHouse.{ToldHouse}
-use Rattle.hv_steps.specs.hv_acts.specs.Told.{IsWholeOrClosed, trail_in}
-use Rattle.hv_steps.specs.hv_acts.specs.Answers.{HasNotEnded}
-use Rattle.hv_steps.specs.hv_acts.specs.Meant as acts
-use Rattle.hv_steps.specs.hv_acts.proofs.Steps.{book-is}
-use Rattle.hv_steps.specs.hv_acts.proofs.RunsOn.{runs-on, runs-unended, waits-unended}
+use Rattle.hv_steps.specs.hv_table_reader.specs.hv_acts.specs.hv_telling.specs.hv_house.specs.House.{entries_of}
+use Rattle.hv_steps.specs.hv_table_reader.specs.hv_acts.specs.hv_telling.proofs.Told.{told-stays}
+use Rattle.hv_steps.specs.hv_table_reader.specs.hv_acts.specs.declared.told.ToldHouse.{ToldHouse}
+use Rattle.hv_steps.specs.hv_table_reader.specs.hv_acts.specs.Told.{IsWholeOrClosed, trail_in}
+use Rattle.hv_steps.specs.hv_table_reader.specs.hv_acts.specs.Answers.{HasNotEnded}
+use Rattle.hv_steps.specs.hv_table_reader.specs.hv_acts.proofs.Steps.{book-is}
+use Rattle.hv_steps.specs.hv_table_reader.specs.hv_acts.proofs.RunsOn.{runs-on, runs-unended, waits-unended}
 use Rattle.hv_steps.specs.Ending.{IsEndOf, HasEndedAt, HasReplied, CanEnd}
-use Rattle.hv_steps.specs.hv_acts.specs.Meant.{IsNoEnd}
+use Rattle.hv_steps.specs.hv_table_reader.specs.hv_acts.specs.Meant.{IsNoEnd}
 use Rattle.hv_steps.specs.declared.reply.Done.{Done}
 use Rattle.hv_steps.specs.declared.reply.Done.TheVariants as done
 use Rattle.hv_steps.specs.declared.reply.Outcome.TheVariants as outcome
 use Rattle.hv_steps.specs.Going.{IsGone, AddsOwn, Gains}
 use Rattle.hv_steps.specs.Phases.{AbortsFor, IsAbortFor, IsUntoldDamage}
 use Rattle.hv_session.specs.Alone.{AddsNothing, HasGained, IsAbortedAlone, IsRefusedAlone, RefusesAlone, RefusesWaiting, SeesAlone}
-use Rattle.hv_session.proofs.AloneBooks.{went-alone, adds-alone, no-end}
+use Rattle.hv_session.proofs.AloneBooks.{went-alone, adds-alone}
 use Rattle.hv_steps.proofs.Books.{fit-behind}
 use Rattle.hv_steps.proofs.Ends.{open-here}
+use Rattle.hv_actor.specs.Acting.{known}
 
 -- ---- it runs
 
@@ -60,10 +60,6 @@ waiting-waits book asking txn said way =
 at-trail : {D : Type 0} (house : ToldHouse D) (P : State → Type 0) → P (state_of (entries_of house.house)) → P (state_at (trail_in house))
 at-trail house P holds = subst (λ (book : List Entry). P (state_of book)) (sym (book-is house.house)) holds
 
-all-no-end : (events : List Entry) → AllByRecursion IsNoEnd events → AllByRecursion acts.IsNoEnd events
-all-no-end [] none = tt
-all-no-end (event ∷ events) none = (no-end event none.0, all-no-end events none.1)
-
 not-gone : (trail : List TrailItem) (txn at : ℕ) → HasNotEnded (state_in (state_at trail) txn) → IsGone trail txn at → ⊥
 not-gone trail txn at not gone = subst HasNotEnded gone not
 
@@ -81,7 +77,7 @@ runs-open s txn runs = open-as IsRunning (λ t is. is.unended) (numbered s.trans
 
 -- ---- its end is the last entry
 
-record IsEndedHere (book : List Entry) (txn : ℕ) : Type 0 where
+pub record IsEndedHere (book : List Entry) (txn : ℕ) : Type 0 where
   pub t : Transaction
   pub here : numbered (state_of book).transactions txn ≡ Some t
   pub ending : Ending
@@ -91,7 +87,7 @@ ended-of : (book : List Entry) (txn : ℕ) (t : Transaction) (ending : Ending) �
 ended-of book txn t ending here is = record { t = t; here = here; ending = ending; is = is }
 
 -- what ends a transaction, and fits, has ended it
-end-ends : (book : List Entry) (event : Entry) (txn : ℕ) → IsEndOf txn event → Fits profile (state_of book) event → IsEndedHere (book ++ event ∷ []) txn
+pub end-ends : (book : List Entry) (event : Entry) (txn : ℕ) → IsEndOf txn event → Fits profile (state_of book) event → IsEndedHere (book ++ event ∷ []) txn
 end-ends book (entry.Commit other wrote) txn ends fits =
     let open_ = open-here book other.0 (CommitFits (state_of book) wrote) (λ t fit. fit.running.unended) fits in
     subst (IsEndedHere (book ++ entry.Commit other wrote ∷ [])) ends
@@ -135,7 +131,7 @@ still-ended (Some u) t ending is later runs =
     cc
 
 -- it isn't open behind that
-ended-stays : (book more : List Entry) (txn : ℕ) → IsEndedHere book txn → Of (state_of (book ++ more)) txn IsOpenOne → ⊥
+pub ended-stays : (book more : List Entry) (txn : ℕ) → IsEndedHere book txn → Of (state_of (book ++ more)) txn IsOpenOne → ⊥
 ended-stays book more txn has runs =
     still-ended (numbered (fold after (state_of book) more).transactions txn) has.t has.ending has.is
     ((goes-on-all more (state_of book)).transactions txn has.t has.here)
@@ -179,17 +175,17 @@ last-named now book txn last ended is fit runs has = by (split-last has.front ha
 module _ {D : Type 0} (faults : D → ℕ) (B : List TrailItem → Type 0) (none : AddsNothing B) where
   -- what runs isn't gone behind one's own entries that end nothing
   pub never-gone : (txn at : ℕ) (own own' : List ℕ) (before now : ToldHouse D) (added : List Entry) → Of (state_of (entries_of before.house)) txn IsRunning
-      → AddsOwn faults B own own' before now added → AllByRecursion IsNoEnd added → IsGone (trail_in now) txn at → ⊥
+      → AddsOwn faults B txn (known own before) (known own' now) added → AllByRecursion (IsNoEnd txn) added → IsGone (trail_in now) txn at → ⊥
   never-gone txn at own own' before now added runs v unended gone =
       let seen : trail_in now ≡ trail_in before ++ v.items = went-alone B none v.items own own' (trail_in before) (trail_in now) v.went in
       let there : Of (state_at (trail_in before)) txn IsRunning = at-trail before (λ (s : State). Of s txn IsRunning) runs in
-      let items : AllByRecursion acts.IsNoEnd (book_of v.items) = subst (AllByRecursion acts.IsNoEnd) (sym v.entries) (all-no-end added unended) in
+      let items : AllByRecursion (IsNoEnd txn) (book_of v.items) = subst (AllByRecursion (IsNoEnd txn)) (sym v.entries) unended in
       let still : Of (state_at (trail_in now)) txn IsRunning =
       subst (λ (trail : List TrailItem). Of (state_at trail) txn IsRunning) (sym seen) (runs-on (trail_in before) v.items (record { 0 = txn }) there items) in
       not-gone (trail_in now) txn at (runs-unended (state_at (trail_in now)) txn still) gone
 
   never-gone-waiting : (txn at : ℕ) (own own' : List ℕ) (before now : ToldHouse D) → Of (state_of (entries_of before.house)) txn legal.IsWaiting
-      → AddsOwn faults B own own' before now [] → IsGone (trail_in now) txn at → ⊥
+      → AddsOwn faults B txn (known own before) (known own' now) [] → IsGone (trail_in now) txn at → ⊥
   never-gone-waiting txn at own own' before now waits v gone =
       let seen : trail_in now ≡ trail_in before ++ v.items = went-alone B none v.items own own' (trail_in before) (trail_in now) v.went in
       let there : Of (state_at (trail_in before)) txn legal.IsWaiting = at-trail before (λ (s : State). Of s txn legal.IsWaiting) waits in
@@ -199,11 +195,12 @@ module _ {D : Type 0} (faults : D → ℕ) (B : List TrailItem → Type 0) (none
 
   -- by whichever way it is known that it isn't gone, and is open before
   aborted-by : (told : D → Option Store) (low txn : ℕ) (own own' : List ℕ) (before now : ToldHouse D) (Causes : Cause → Type 0) (found : Done)
-      → ((at : ℕ) → AddsOwn faults B own own' before now [] → IsGone (trail_in now) txn at → ⊥) → Of (state_of (entries_of before.house)) txn IsOpenOne
+      → ((at : ℕ) → AddsOwn faults B txn (known own before) (known own' now) [] → IsGone (trail_in now) txn at → ⊥)
+      → Of (state_of (entries_of before.house)) txn IsOpenOne
       → IsWholeOrClosed told now.house
-      → Gains faults B low txn own own' before now (AbortsFor txn now [] Causes found) → IsAbortedAlone txn Causes before now found
-  aborted-by told low txn own own' before now Causes (done.Gone at) never open_ kept gains =
-      absurd (never at (subst (AddsOwn faults B own own' before now) gains.is.0 gains.adds) gains.is.1)
+      → Gains faults B low txn (known own before) (known own' now) (AbortsFor txn now [] Causes found) → IsAbortedAlone txn Causes before now found
+  aborted-by told low txn own own' before now Causes (done.Gone reply) never open_ kept gains =
+      absurd (never gains.is.1.at (subst (AddsOwn faults B txn (known own before) (known own' now)) gains.is.0 gains.adds) gains.is.1.gone)
   aborted-by told low txn own own' before now Causes (done.Replied reply) never open_ kept gains =
       let gained : HasGained faults before now gains.added = adds-alone faults B none own own' before now gains.added gains.adds in
       let last : Entry = gains.is.0 in
@@ -233,7 +230,7 @@ module _ {D : Type 0} (faults : D → ℕ) (B : List TrailItem → Type 0) (none
 
   pub aborts-alone : (told : D → Option Store) (asking : Asking) (said : Stmt) (place : ℕ) (given : List (ℕ × ℕ)) (low txn : ℕ) (own own' : List ℕ) (before now : ToldHouse D)
       (Causes : Cause → Type 0) (found : Done) → IsUnderWay (entries_of before.house) asking txn place said given → IsWholeOrClosed told now.house
-      → Gains faults B low txn own own' before now (AbortsFor txn now [] Causes found) → IsAbortedAlone txn Causes before now found
+      → Gains faults B low txn (known own before) (known own' now) (AbortsFor txn now [] Causes found) → IsAbortedAlone txn Causes before now found
   aborts-alone told asking said place given low txn own own' before now Causes found way kept gains =
       let runs : Of (state_of (entries_of before.house)) txn IsRunning = way-runs (entries_of before.house) asking txn place said given way in
       aborted-by told low txn own own' before now Causes found (λ at v gone. never-gone txn at own own' before now [] runs v tt gone)

@@ -1,5 +1,5 @@
 -- Where others do nothing, a started statement ends by entries of its own, in the order of its way, and nobody else ended it.
-use Rattle.std.proofs.Common.{◌≡◌, ◌⊎◌, inl, inr, ℕ, ◌<◌, Option, Some, List, [], ◌∷◌, ◌++◌, take, refl, sym, ap, ◌∙◌, subst, append-nil, arith, Ok, Err, Result}
+use Rattle.std.proofs.Common.{◌≡◌, inl, inr, ℕ, ◌<◌, Option, Some, List, [], ◌∷◌, ◌++◌, take, refl, sym, ap, ◌∙◌, subst, append-nil, append_assoc, arith, Ok, Err, Result}
 use Rattle.std.specs.Prelude.{IfOk, false, nat_lt}
 use Rattle.std.specs.List.{AllByRecursion}
 use Rattle.std.proofs.lemmas.List.{take-append-le}
@@ -13,44 +13,52 @@ use Rattle.hv_logic.specs.declared.meaning.Meaning.TheVariants.{Listing, Change,
 use Rattle.hv_history.specs.declared.entry.Entry.{Entry}
 use Rattle.hv_history.specs.declared.entry.Cause.{Cause}
 use Rattle.hv_history.specs.declared.entry.Cause.TheVariants as cause
-use Rattle.hv_history.specs.State.{State, state_of}
+use Rattle.hv_history.specs.Asking.{numbers_in}
+use Rattle.hv_history.specs.State.{State, nothing_yet, state_of}
+use Rattle.hv_history.specs.Legal.{AllFit, profile}
 use Rattle.hv_stands.specs.Laws.{changes_in}
 use Rattle.hv_stands.specs.Running.{Asking, IsOf, AreOf, meant, IsUnderWay}
 use Rattle.hv_stands.proofs.Begun.{ids-given}
 use Rattle.hv_trail.specs.declared.trail.TrailItem.{TrailItem}
 use Rattle.hv_law_next.specs.Next.{needs_id}
 use Rattle.hv_law_next.specs.Order.{AllInOrder}
-use Rattle.hv_steps.specs.hv_acts.specs.hv_telling.specs.hv_house.specs.declared.fault.HouseFault.{HouseFault}
-use Rattle.hv_steps.specs.hv_acts.specs.hv_telling.specs.hv_house.specs.House.{entries_of}
-use Rattle.hv_steps.specs.hv_acts.specs.hv_telling.specs.Telling.{IsToldHouse}
-use Rattle.hv_steps.specs.hv_acts.specs.hv_telling.proofs.Told.{told-stays}
-use Rattle.hv_steps.specs.hv_acts.specs.declared.told.ToldHouse.{ToldHouse}
-use Rattle.hv_steps.specs.hv_acts.specs.Told.{IsWholeOrClosed, book_in}
-use Rattle.hv_steps.specs.hv_acts.proofs.Steps.{book-is}
+use Rattle.hv_steps.specs.hv_table_reader.specs.hv_acts.specs.hv_telling.specs.hv_house.specs.declared.fault.HouseFault.{HouseFault}
+use Rattle.hv_steps.specs.hv_table_reader.specs.hv_acts.specs.hv_telling.specs.hv_house.specs.House.{entries_of}
+use Rattle.hv_steps.specs.hv_table_reader.specs.hv_acts.specs.hv_telling.specs.Telling.{IsToldHouse}
+use Rattle.hv_steps.specs.hv_table_reader.specs.hv_acts.specs.hv_telling.proofs.Told.{told-stays}
+use Rattle.hv_steps.specs.hv_table_reader.specs.hv_acts.specs.declared.told.ToldHouse.{ToldHouse}
+use Rattle.hv_steps.specs.hv_table_reader.specs.hv_acts.specs.Told.{IsWholeOrClosed, trail_in, book_in}
+use Rattle.hv_steps.specs.hv_table_reader.specs.hv_acts.proofs.Steps.{book-is}
 use Rattle.hv_steps.specs.declared.ready.Way.{Way}
 use Rattle.hv_steps.specs.declared.ready.Ready.{Ready}
 use Rattle.hv_steps.specs.declared.ready.Reply.{Reply}
 use Rattle.hv_steps.specs.declared.reply.Done.{Done}
 use Rattle.hv_steps.specs.declared.reply.Done.TheVariants as done
+use Rattle.hv_steps.specs.declared.reply.Prepared.TheVariants as prepared
 use Rattle.hv_session.specs.declared.paused.Point.{Point}
 use Rattle.hv_session.specs.declared.paused.Point.TheVariants as point
 use Rattle.hv_session.specs.declared.paused.Paused.{Paused}
 use Rattle.hv_steps.specs.Ending.{aborting, giving, IsUndamaged, AddsNoneOrId, IsAskedBy, EndIsTrue, HasReplied}
-use Rattle.hv_steps.specs.hv_acts.specs.Meant.{IsNoEnd}
+use Rattle.hv_steps.specs.hv_table_reader.specs.hv_acts.specs.Meant.{IsNoEnd}
 use Rattle.hv_steps.specs.Going.{faults_in, IsOpenHouse, AddsOwn, Gains, Goes}
-use Rattle.hv_steps.specs.Phases.{EndsBehind, IsAbortFor, AbortsFor, IsUntoldDamage, PreparesTo, EndsEarlyFor, IsWriteFault, GivesId, ConcludesSo, Concludes, AnswersTruly}
-use Rattle.hv_session.specs.Doing.{EndsFrom, EndsAs, EndsFromPoint, Finishes}
+use Rattle.hv_steps.specs.Requests.{IsAskIn}
+use Rattle.hv_steps.specs.Phases.{EndsBehind, IsAbortFor, AbortsFor, IsUntoldDamage, NoCause, Prepares, PreparesAsked, PreparesTo, EndsEarlyFor, IsWriteFault, GivesId, ConcludesSo, Concludes, AnswersTruly}
+use Rattle.hv_session.specs.Doing.{ReadiesTo, EndsFrom, EndsAs, EndsFromPoint, Finishes}
 use Rattle.hv_session.specs.Taking.{HasNone, PointIsTrue, IsHeld, IsHeldBySome, IsTrulyHeld}
 use Rattle.hv_session.specs.Alone.{AddsNothing, HasGained}
-use Rattle.hv_session.specs.Ways.{ActsAlone, IsOnWay, IsOnWayAs, IsOwnEnd, IsFinishedAs, EndsAlone}
-use Rattle.hv_steps.proofs.Books.{state-behind}
+use Rattle.hv_session.specs.Ways.{ActsAlone, IsOnWay, IsOwnEnd, IsFinishedAs, EndsAlone}
+use Rattle.hv_steps.proofs.AsksMade.{asks-unended}
+use Rattle.hv_steps.proofs.Books.{all-append, state-behind}
+use Rattle.hv_steps.proofs.Standing.{means-still}
 use Rattle.hv_session.proofs.Orders.{order-behind, aborted-in-order, ended-in-order, prepared-in-order, cut-in-order, true-to-commit, needs-no-id}
-use Rattle.hv_session.proofs.Takings.{prepares-unended}
+use Rattle.hv_session.proofs.Takings.{same-done, readies-unended}
+use Rattle.hv_session.proofs.AloneAsks.{AsksStand, asks-stand, asks-undamaged}
 use Rattle.hv_session.proofs.AloneBooks.{adds-alone}
 use Rattle.hv_session.proofs.AloneStops.{parts-alone}
 use Rattle.hv_session.proofs.AloneEnds.{way-runs, never-gone}
 use Rattle.hv_session.proofs.AlonePrepares.{IsPlain, early-plain, write-plain, or-plain, IsBefore, nothing-before, id-before, all-behind}
 use Rattle.hv_session.proofs.AloneConcludes.{IsCleanEnd, clean-so}
+use Rattle.hv_actor.specs.Acting.{among, known}
 
 -- ---- what it added to be ready
 
@@ -72,6 +80,10 @@ all-last : {A : Type 0} (P : A → Type 0) (xs : List A) (x : A) → AllByRecurs
 all-last P [] x all = all.0
 all-last P (y ∷ xs) x all = all-last P xs x all.1
 
+all-rest : {A : Type 0} (P : A → Type 0) (xs ys : List A) → AllByRecursion P (xs ++ ys) → AllByRecursion P ys
+all-rest P [] ys all = all
+all-rest P (x ∷ xs) ys all = all-rest P xs ys all.1
+
 read-plain : {D : Type 0} (told : D → Option Store) (now : ToldHouse D) → IsToldHouse told now.house → (why : Cause) → IsUntoldDamage told now why → IsPlain why
 read-plain told now is (cause.Damaged place) untold = absurd (untold is)
 read-plain told now is (cause.ReadFault count) untold = record { uncommitted = tt; undamaged = λ txn. tt }
@@ -88,8 +100,8 @@ read-plain told now is cause.Memory untold = absurd untold
 read-plain told now is cause.Lost untold = absurd untold
 read-plain told now is cause.Rollback untold = absurd untold
 
-gives-unended : (txn : ℕ) (meaning : Meaning) (first : List Entry) → GivesId txn meaning first → AllByRecursion IsNoEnd first
-gives-unended txn (Change info effect) first gives = subst (AllByRecursion IsNoEnd) (sym gives.2) (tt, tt)
+gives-unended : (txn : ℕ) (meaning : Meaning) (first : List Entry) → GivesId txn meaning first → AllByRecursion (IsNoEnd txn) first
+gives-unended txn (Change info effect) first gives = subst (AllByRecursion (IsNoEnd txn)) (sym gives.2) (tt, tt)
 gives-unended txn (Listing names rows) first gives = absurd gives
 gives-unended txn (Make shape) first gives = absurd gives
 gives-unended txn (Unmake table) first gives = absurd gives
@@ -143,7 +155,7 @@ module _ (book : List Entry) (asking : Asking) (txn place : ℕ) (said : Stmt) (
 
   -- its end stands behind that
   ready-way : (meaning : Meaning) → meant (take place book) said ≡ Some meaning → (first added : List Entry) (last : Entry)
-      → IsReadied book asking txn place said meaning first → added ≡ first ++ last ∷ [] → AreOf txn added → IsCleanEnd last → IsInWay book added
+      → IsReadied book asking txn place said meaning first → added ≡ first ++ last ∷ [] → AreOf txn added → IsCleanEnd txn last → IsInWay book added
   ready-way meaning means first added last ready is whose clean = record {
     in_order =
         subst (AllInOrder (state_of book)) (sym is)
@@ -152,7 +164,7 @@ module _ (book : List Entry) (asking : Asking) (txn place : ℕ) (said : Stmt) (
         (record { added = first; book = refl; asked = ready.asked }) ready.shape)
         (subst (λ (s : State). AllInOrder s (last ∷ [])) (state-behind book first)
         (ended-in-order (book ++ first) asking txn place said ready.given ready.under_way ready.has (last ∷ [])
-        (all-last (IsOf txn) first last (subst (AreOf txn) is whose), tt) (last, clean.ends, refl))));
+        (all-last (IsOf txn) first last (subst (AreOf txn) is whose), tt) (last, clean.ends, refl) clean.owns)));
     undamaged = subst (AllByRecursion IsUndamaged) (sym is) (all-behind IsUndamaged first last ready.undamaged clean.undamaged);
   }
 
@@ -210,25 +222,90 @@ module _ (book : List Entry) (asking : Asking) (txn place : ℕ) (said : Stmt) (
   gives-before PartitionLimit first gives = absurd gives
   gives-before Plain first gives = absurd gives
 
-  from-way : {D : Type 0} (now : ToldHouse D) (meaning : Meaning) → meant (take place book) said ≡ Some meaning → (reply : Reply) (added : List Entry) → AreOf txn added
-      → EndsFrom txn now meaning (done.Replied reply) added → IsInWay book added
-  from-way now meaning means reply added whose (inl (inl early)) =
+  -- it ended while it was prepared
+  prepared-way : {D : Type 0} (now : ToldHouse D) (meaning : Meaning) → meant (take place book) said ≡ Some meaning → (reply : Reply) (added : List Entry)
+      → Prepares txn now meaning (prepared.Ended (done.Replied reply)) added → IsInWay book added
+  prepared-way now meaning means reply added (inl early) =
       aborted-way now meaning means [] (EndsEarlyFor meaning) reply added (nothing-before book asking txn place said meaning under) (early-plain meaning) early
-  from-way now meaning means reply added whose (inl (inr broken)) =
+  prepared-way now meaning means reply added (inr broken) =
       aborted-way now meaning means broken.0 IsWriteFault reply added (gives-before meaning broken.0 broken.1) write-plain broken.2
-  from-way now meaning means reply added whose (inr ready) =
-      concluded-way now meaning means ready.0 ready.1 reply added whose ready.2 ready.3
+
+  -- behind what it asked for
+  way-behind : (asks more added : List Entry) → added ≡ asks ++ more → AllInOrder (state_of book) asks → AllByRecursion IsUndamaged asks → IsInWay (book ++ asks) more
+      → IsInWay book added
+  way-behind asks more added is in_order undamaged rest = record {
+    in_order =
+        subst (AllInOrder (state_of book)) (sym is)
+        (order-behind (state_of book) asks more in_order (subst (λ (s : State). AllInOrder s more) (state-behind book asks) rest.in_order));
+    undamaged = subst (AllByRecursion IsUndamaged) (sym is) (all-append IsUndamaged asks more undamaged rest.undamaged);
+  }
+
+-- ---- behind the aborts that it asked for
+
+module _ {D : Type 0} (now : ToldHouse D) (fit : AllFit profile nothing_yet (entries_of now.house)) (asking : Asking) (way : Way) (said : Stmt) (book : List Entry)
+    (under : IsUnderWay book asking way.txn.0 way.place said []) where
+  abbrev IsAsk : Entry → Type 0
+  IsAsk event = IsAskIn now way said event
+
+  stand : (asks rest added : List Entry) → entries_of now.house ≡ book ++ added → added ≡ asks ++ rest → AllByRecursion IsAsk asks
+      → AsksStand asking way.txn.0 way.place said book asks
+  stand asks rest added gained is all =
+      asks-stand (trail_in now) (subst (AllFit profile nothing_yet) (sym (book-is now.house)) fit) asking way.txn.0 way.place said asks book rest
+      (book-is now.house ∙ gained ∙ ap (λ (xs : List Entry). book ++ xs) is) under all
+
+  none-damaged : (asks : List Entry) → AllByRecursion IsAsk asks → AllByRecursion IsUndamaged asks
+  none-damaged asks all = asks-undamaged (trail_in now) way.txn.0 way.place (numbers_in (Some said)) asks all
+
+  module _ (meaning : Meaning) (means : meant (take way.place book) said ≡ Some meaning) (reply : Reply) (added : List Entry) (whose : AreOf way.txn.0 added)
+      (gained : entries_of now.house ≡ book ++ added) where
+    behind : (asks more : List Entry) → added ≡ asks ++ more → AllByRecursion IsAsk asks
+        → (IsUnderWay (book ++ asks) asking way.txn.0 way.place said [] → meant (take way.place (book ++ asks)) said ≡ Some meaning → AreOf way.txn.0 more
+        → IsInWay (book ++ asks) more) → IsInWay book added
+    behind asks more is all so =
+        let stands : AsksStand asking way.txn.0 way.place said book asks = stand asks more added gained is all in
+        way-behind book asking way.txn.0 way.place said under asks more added is stands.in_order (none-damaged asks all)
+        (so stands.under_way (means-still book asking way.txn.0 way.place said [] under asks ∙ means)
+        (all-rest (IsOf way.txn.0) asks more (subst (AreOf way.txn.0) is whose)))
+
+    -- it was stopped while it asked
+    stopped-way : (first : List Entry) → AllByRecursion IsAsk first → AbortsFor way.txn.0 now first NoCause (done.Replied reply) added → IsInWay book added
+    stopped-way first all ends =
+        behind first (ends.0 ∷ []) ends.1 all (λ later later_means more_of.
+        unseen-way (book ++ first) asking way.txn.0 way.place said later now NoCause reply (ends.0 ∷ []) (λ why never. absurd never)
+        (ends.0, refl, ends.2, ends.3))
+
+    asked-way : PreparesAsked way.txn.0 now IsAsk meaning (prepared.Ended (done.Replied reply)) added → IsInWay book added
+    asked-way (inl is) =
+        behind is.0 is.1 is.2 is.3 (λ later later_means more_of.
+        prepared-way (book ++ is.0) asking way.txn.0 way.place said later now meaning later_means reply is.1 is.4)
+    asked-way (inr is) =
+        stopped-way is.2.0 is.2.1
+        (subst (λ (found : Done). AbortsFor way.txn.0 now is.2.0 NoCause found added) (sym (same-done (done.Replied reply) is.0 is.1)) is.2.2)
+
+    readied-way : (ready : Ready) (first : List Entry) → ReadiesTo now way said meaning ready first
+        → EndsBehind way.txn.0 now first (ConcludesSo way.txn.0 now ready) (done.Replied reply) added → IsInWay book added
+    readied-way ready first readies ends =
+        behind readies.0 (readies.1 ++ ends.0 ∷ [])
+        (ends.1 ∙ ap (λ (xs : List Entry). xs ++ ends.0 ∷ []) readies.2 ∙ append_assoc readies.0 readies.1 (ends.0 ∷ [])) readies.3
+        (λ later later_means more_of.
+        concluded-way (book ++ readies.0) asking way.txn.0 way.place said later now meaning later_means ready readies.1 reply (readies.1 ++ ends.0 ∷ []) more_of readies.4
+        (ends.0, refl, ends.2, ends.3))
+
+    from-way : EndsFrom now way said meaning (done.Replied reply) added → IsInWay book added
+    from-way (inl asked) = asked-way asked
+    from-way (inr ready) = readied-way ready.0 ready.1 ready.2 ready.3
 
 -- of this tree, as it means over the tables at its snapshot
-as-way : {D : Type 0} (told : D → Option Store) (now : ToldHouse D) (book : List Entry) (asking : Asking) (way : Way) (said : Stmt)
+as-way : {D : Type 0} (told : D → Option Store) (now : ToldHouse D) → AllFit profile nothing_yet (entries_of now.house) → (book : List Entry) (asking : Asking) (way : Way)
+    (said : Stmt)
     → IsUnderWay book asking way.txn.0 way.place said [] → IsToldHouse told now.house → (reply : Reply) (added : List Entry) → AreOf way.txn.0 added
     → entries_of now.house ≡ book ++ added → EndsAs told now way said (done.Replied reply) added → IsInWay book added
-as-way told now book asking way said under is reply added whose gained (inl unseen) =
+as-way told now fit book asking way said under is reply added whose gained (inl unseen) =
     unseen-way book asking way.txn.0 way.place said under now (IsUntoldDamage told now) reply added (read-plain told now is) unseen
-as-way told now book asking way said under is reply added whose gained (inr means) =
+as-way told now fit book asking way said under is reply added whose gained (inr means) =
     let same : take way.place (book_in now) ≡ take way.place book =
     ap (take way.place) (book-is now.house ∙ gained) ∙ take-append-le way.place book added (omega (arith, under.early)) in
-    from-way book asking way.txn.0 way.place said under now means.0 (ap (λ (b : List Entry). meant b said) (sym same) ∙ means.1.truly is) reply added whose means.2
+    from-way now fit asking way said book under means.0 (ap (λ (b : List Entry). meant b said) (sym same) ∙ means.1.truly is) reply added whose gained means.2
 
 -- of one that was ready to end
 ready-truly : {D : Type 0} (now : ToldHouse D) (book : List Entry) (asking : Asking) (txn place : ℕ) (said : Stmt) (given : List (ℕ × ℕ)) (ready : Ready)
@@ -236,12 +313,12 @@ ready-truly : {D : Type 0} (now : ToldHouse D) (book : List Entry) (asking : Ask
     → AreOf txn added → Concludes txn now ready (done.Replied reply) added → IsInWay book added
 ready-truly now book asking txn place said given ready under truly reply added whose ends =
     let is : added ≡ ends.0 ∷ [] = ends.1 in
-    let clean : IsCleanEnd ends.0 = clean-so txn now ready ends.0 reply ends.2 in
+    let clean : IsCleanEnd txn ends.0 = clean-so txn now ready ends.0 reply ends.2 in
     record {
       in_order =
           ended-in-order book asking txn place said given under
           (needs-no-id given (meant (take place book) said) (true-to-commit (meant (take place book) said) given ready.end ready.text truly))
-          added whose (ends.0, clean.ends, is);
+          added whose (ends.0, clean.ends, is) clean.owns;
       undamaged = subst (AllByRecursion IsUndamaged) (sym is) (clean.undamaged, tt);
     }
 
@@ -249,39 +326,71 @@ ready-truly now book asking txn place said given ready under truly reply added w
 
 module _ {D : Type 0} (faults : D → ℕ) (B : List TrailItem → Type 0) (none : AddsNothing B) (asking : Asking) (said : Stmt) (place : ℕ) (given : List (ℕ × ℕ))
     (txn : ℕ) (own own' : List ℕ) (before now : ToldHouse D) (under : IsUnderWay (entries_of before.house) asking txn place said given) where
-  behind-own : (first : List Entry) (Is : Entry → Reply → Type 0) (found : Done) (added : List Entry) → AllByRecursion IsNoEnd first
-      → AddsOwn faults B own own' before now added → EndsBehind txn now first Is found added → IsOwnEnd found
+  behind-own : (first : List Entry) (Is : Entry → Reply → Type 0) (found : Done) (added : List Entry) → AllByRecursion (IsNoEnd txn) first
+      → AddsOwn faults B txn (known own before) (known own' now) added → EndsBehind txn now first Is found added → IsOwnEnd found
   behind-own first Is (done.Replied reply) added unended adds ends = tt
-  behind-own first Is (done.Gone at) added unended adds ends =
-      never-gone faults B none txn at own own' before now first (way-runs (entries_of before.house) asking txn place said given under)
-      (subst (λ (xs : List Entry). AddsOwn faults B own own' before now xs) ends.0 adds) unended ends.1
+  behind-own first Is (done.Gone reply) added unended adds ends =
+      never-gone faults B none txn ends.1.at own own' before now first (way-runs (entries_of before.house) asking txn place said given under)
+      (subst (λ (xs : List Entry). AddsOwn faults B txn (known own before) (known own' now) xs) ends.0 adds) unended ends.1.gone
 
-  from-own : (meaning : Meaning) (found : Done) (added : List Entry) → AddsOwn faults B own own' before now added → EndsFrom txn now meaning found added → IsOwnEnd found
-  from-own meaning found added adds (inl (inl early)) = behind-own [] (IsAbortFor txn now (EndsEarlyFor meaning)) found added tt adds early
-  from-own meaning found added adds (inl (inr broken)) =
-      behind-own broken.0 (IsAbortFor txn now IsWriteFault) found added (gives-unended txn meaning broken.0 broken.1) adds broken.2
-  from-own meaning found added adds (inr ready) =
-      behind-own ready.1 (ConcludesSo txn now ready.0) found added (prepares-unended txn meaning ready.0 ready.1 ready.2) adds ready.3
+further : {D : Type 0} (txn : ℕ) (now : ToldHouse D) (asks first : List Entry) (Is : Entry → Reply → Type 0) (found : Done) (more added : List Entry)
+    → added ≡ asks ++ more → EndsBehind txn now first Is found more → EndsBehind txn now (asks ++ first) Is found added
+further txn now asks first Is (done.Replied reply) more added is ends =
+    (ends.0, is ∙ ap (λ (xs : List Entry). asks ++ xs) ends.1 ∙ sym (append_assoc asks first (ends.0 ∷ [])), ends.2, ends.3)
+further txn now asks first Is (done.Gone reply) more added is ends = (is ∙ ap (λ (xs : List Entry). asks ++ xs) ends.0, ends.1)
+
+module _ {D : Type 0} (faults : D → ℕ) (B : List TrailItem → Type 0) (none : AddsNothing B) (asking : Asking) (way : Way) (said : Stmt) (own own' : List ℕ)
+    (before now : ToldHouse D) (under : IsUnderWay (entries_of before.house) asking way.txn.0 way.place said []) (meaning : Meaning) (found : Done) (added : List Entry)
+    (adds : AddsOwn faults B way.txn.0 (known own before) (known own' now) added) where
+  behind-so : (first : List Entry) (Is : Entry → Reply → Type 0) → AllByRecursion (IsNoEnd way.txn.0) first → EndsBehind way.txn.0 now first Is found added → IsOwnEnd found
+  behind-so first Is unended ends = behind-own faults B none asking said way.place [] way.txn.0 own own' before now under first Is found added unended adds ends
+
+  unended-asks : (asks : List Entry) → AllByRecursion (IsAskIn now way said) asks → AllByRecursion (IsNoEnd way.txn.0) asks
+  unended-asks asks all = asks-unended (trail_in now) way.txn.0 way.place (numbers_in (Some said)) asks all
+
+  prepared-own : (asks more : List Entry) → added ≡ asks ++ more → AllByRecursion (IsAskIn now way said) asks
+      → Prepares way.txn.0 now meaning (prepared.Ended found) more → IsOwnEnd found
+  prepared-own asks more is all (inl early) =
+      behind-so (asks ++ []) (IsAbortFor way.txn.0 now (EndsEarlyFor meaning)) (all-append (IsNoEnd way.txn.0) asks [] (unended-asks asks all) tt)
+      (further way.txn.0 now asks [] (IsAbortFor way.txn.0 now (EndsEarlyFor meaning)) found more added is early)
+  prepared-own asks more is all (inr broken) =
+      behind-so (asks ++ broken.0) (IsAbortFor way.txn.0 now IsWriteFault)
+      (all-append (IsNoEnd way.txn.0) asks broken.0 (unended-asks asks all) (gives-unended way.txn.0 meaning broken.0 broken.1))
+      (further way.txn.0 now asks broken.0 (IsAbortFor way.txn.0 now IsWriteFault) found more added is broken.2)
+
+  asked-own : PreparesAsked way.txn.0 now (IsAskIn now way said) meaning (prepared.Ended found) added → IsOwnEnd found
+  asked-own (inl is) = prepared-own is.0 is.1 is.2 is.3 is.4
+  asked-own (inr is) =
+      behind-so is.2.0 (IsAbortFor way.txn.0 now NoCause) (unended-asks is.2.0 is.2.1)
+      (subst (λ (d : Done). AbortsFor way.txn.0 now is.2.0 NoCause d added) (sym (same-done found is.0 is.1)) is.2.2)
+
+  from-own : EndsFrom now way said meaning found added → IsOwnEnd found
+  from-own (inl asked) = asked-own asked
+  from-own (inr ready) =
+      behind-so ready.1 (ConcludesSo way.txn.0 now ready.0) (readies-unended now way said meaning ready.0 ready.1 ready.2) ready.3
 
 as-own : {D : Type 0} (told : D → Option Store) (faults : D → ℕ) (B : List TrailItem → Type 0) → AddsNothing B → (asking : Asking) (way : Way) (said : Stmt)
     (own own' : List ℕ) (before now : ToldHouse D) → IsUnderWay (entries_of before.house) asking way.txn.0 way.place said [] → (found : Done) (added : List Entry)
-    → AddsOwn faults B own own' before now added → EndsAs told now way said found added → IsOwnEnd found
+    → AddsOwn faults B way.txn.0 (known own before) (known own' now) added → EndsAs told now way said found added → IsOwnEnd found
 as-own told faults B none asking way said own own' before now under found added adds (inl unseen) =
     behind-own faults B none asking said way.place [] way.txn.0 own own' before now under [] (IsAbortFor way.txn.0 now (IsUntoldDamage told now)) found added tt adds unseen
 as-own told faults B none asking way said own own' before now under found added adds (inr means) =
-    from-own faults B none asking said way.place [] way.txn.0 own own' before now under means.0 found added adds means.2
+    from-own faults B none asking way said own own' before now under means.0 found added adds means.2
 
 -- ---- all that is promised of its end
 
 module _ {D : Type 0} (told : D → Option Store) (faults : D → ℕ) (B : List TrailItem → Type 0) (meanwhile : ToldHouse D → ToldHouse D → Type 0)
     (alone : ActsAlone B meanwhile) (own own' : List ℕ) (before now : ToldHouse D) (running : IsOpenHouse before) (kept : IsWholeOrClosed told now.house) where
-  finished : (txn : ℕ) (Is : Done → List Entry → Type 0) (found : Done) → Gains faults B (faults_in faults before) txn own own' before now (Is found)
+  finished : (txn : ℕ) (Is : Done → List Entry → Type 0) (found : Done) → Gains faults B (faults_in faults before) txn (known own before) (known own' now)
+      (Is found)
       → AnswersTruly txn now found → IsOwnEnd found
-      → ((reply : Reply) (added : List Entry) → AreOf txn added → HasGained faults before now added → Is (done.Replied reply) added → IsInWay (entries_of before.house) added)
+      → ((reply : Reply) (added : List Entry) → AreOf txn added → HasGained faults before now added
+      → AllFit profile nothing_yet (entries_of now.house) → Is (done.Replied reply) added → IsInWay (entries_of before.house) added)
       → IsFinishedAs (entries_of before.house) (entries_of now.house) txn found
   finished txn Is (done.Replied reply) gains answered its_own in_way =
       let gained : HasGained faults before now gains.added = adds-alone faults B alone.nothing own own' before now gains.added gains.adds in
-      let way : IsInWay (entries_of before.house) gains.added = in_way reply gains.added gains.of_it gained gains.is in
+      let way : IsInWay (entries_of before.house) gains.added =
+      in_way reply gains.added gains.of_it gained (kept.whole gains.running).ready.fit gains.is in
       record {
         added = gains.added;
         book = gained.book;
@@ -290,14 +399,14 @@ module _ {D : Type 0} (told : D → Option Store) (faults : D → ℕ) (B : List
         answered = subst (λ (b : List Entry). HasReplied b txn reply.text reply.refused reply.ended) (book-is now.house) answered;
         in_order = way.in_order;
       }
-  finished txn Is (done.Gone at) gains answered its_own in_way = absurd its_own
+  finished txn Is (done.Gone reply) gains answered its_own in_way = absurd its_own
 
   ends-alone : (txn : ℕ) (Is : Done → List Entry → Type 0) (result : Result Done HouseFault)
-      → Goes told faults B meanwhile (faults_in faults before) txn own own' before now Is result
+      → Goes (among told faults B meanwhile) (faults_in faults before) txn (known own before) (known own' now) Is result
       → (IsToldHouse told before.house → IfOk result (AnswersTruly txn now))
-      → ((found : Done) (added : List Entry) → AddsOwn faults B own own' before now added → Is found added → IsOwnEnd found)
-      → (IsToldHouse told before.house → (reply : Reply) (added : List Entry) → AreOf txn added → HasGained faults before now added → Is (done.Replied reply) added
-      → IsInWay (entries_of before.house) added)
+      → ((found : Done) (added : List Entry) → AddsOwn faults B txn (known own before) (known own' now) added → Is found added → IsOwnEnd found)
+      → (IsToldHouse told before.house → (reply : Reply) (added : List Entry) → AreOf txn added → HasGained faults before now added
+      → AllFit profile nothing_yet (entries_of now.house) → Is (done.Replied reply) added → IsInWay (entries_of before.house) added)
       → EndsAlone told faults txn before.house now.house result
   ends-alone txn Is (Ok found) goes answered its_own in_way =
       let own_end : IsOwnEnd found = its_own found goes.done.added goes.done.adds goes.done.is in
@@ -316,25 +425,27 @@ module _ {D : Type 0} (told : D → Option Store) (faults : D → ℕ) (B : List
   told-behind added gained is = told-stays told before.house now.house gained.start is
 
   -- by what it means
-  pub from-alone : (way : Way) (meaning : Meaning) (result : Result Done HouseFault)
-      → Goes told faults B meanwhile (faults_in faults before) way.txn.0 own own' before now (EndsFrom way.txn.0 now meaning) result
-      → (IsToldHouse told before.house → IfOk result (AnswersTruly way.txn.0 now)) → IsOnWayAs told before.house way meaning
+  pub from-alone : (way : Way) (said : Stmt) (meaning : Meaning) (result : Result Done HouseFault)
+      → Goes (among told faults B meanwhile) (faults_in faults before) way.txn.0 (known own before) (known own' now) (EndsFrom now way said meaning) result
+      → (IsToldHouse told before.house → IfOk result (AnswersTruly way.txn.0 now)) → IsOnWay (entries_of before.house) way said
+      → (IsToldHouse told before.house → meant (take way.place (entries_of before.house)) said ≡ Some meaning)
       → EndsAlone told faults way.txn.0 before.house now.house result
-  from-alone way meaning result goes answered on =
-      ends-alone way.txn.0 (EndsFrom way.txn.0 now meaning) result goes answered
-      (λ found added adds ends. from-own faults B alone.nothing on.1.0 on.0 way.place [] way.txn.0 own own' before now on.1.1 meaning found added adds ends)
-      (λ is reply added whose gained ends. from-way (entries_of before.house) on.1.0 way.txn.0 way.place on.0 on.1.1 now meaning (on.2 is) reply added whose ends)
+  from-alone way said meaning result goes answered on means =
+      ends-alone way.txn.0 (EndsFrom now way said meaning) result goes answered
+      (λ found added adds ends. from-own faults B alone.nothing on.0 way said own own' before now on.1 meaning found added adds ends)
+      (λ is reply added whose gained fit ends.
+      from-way now fit on.0 way said (entries_of before.house) on.1 meaning (means is) reply added whose gained.book ends)
 
   -- as its tree means
   pub as-alone : (way : Way) (said : Stmt) (result : Result Done HouseFault)
-      → Goes told faults B meanwhile (faults_in faults before) way.txn.0 own own' before now (EndsAs told now way said) result
+      → Goes (among told faults B meanwhile) (faults_in faults before) way.txn.0 (known own before) (known own' now) (EndsAs told now way said) result
       → (IsToldHouse told before.house → IfOk result (AnswersTruly way.txn.0 now)) → IsOnWay (entries_of before.house) way said
       → EndsAlone told faults way.txn.0 before.house now.house result
   as-alone way said result goes answered on =
       ends-alone way.txn.0 (EndsAs told now way said) result goes answered
       (λ found added adds ends. as-own told faults B alone.nothing on.0 way said own own' before now on.1 found added adds ends)
-      (λ is reply added whose gained ends.
-      as-way told now (entries_of before.house) on.0 way said on.1 (told-behind added gained is) reply added whose gained.book ends)
+      (λ is reply added whose gained fit ends.
+      as-way told now fit (entries_of before.house) on.0 way said on.1 (told-behind added gained is) reply added whose gained.book ends)
 
   -- ---- one that was held
 
@@ -344,7 +455,8 @@ module _ {D : Type 0} (told : D → Option Store) (faults : D → ℕ) (B : List
       subst (IsUnderWay (entries_of before.house) asking paused.way.txn.0 paused.way.place paused.tree) none held.under_way
 
   point-alone : (paused : Paused) (at : Point) (result : Result Done HouseFault) → paused.point ≡ at
-      → Goes told faults B meanwhile (faults_in faults before) paused.way.txn.0 own own' before now (EndsFromPoint told now paused.way paused.tree at) result
+      → Goes (among told faults B meanwhile) (faults_in faults before) paused.way.txn.0 (known own before) (known own' now)
+      (EndsFromPoint told now paused.way paused.tree at) result
       → (IsToldHouse told before.house → IfOk result (AnswersTruly paused.way.txn.0 now)) → IsHeldBySome (entries_of before.house) paused
       → (IsToldHouse told before.house → IsTrulyHeld (entries_of before.house) paused)
       → EndsAlone told faults paused.way.txn.0 before.house now.house result
@@ -352,25 +464,23 @@ module _ {D : Type 0} (told : D → Option Store) (faults : D → ℕ) (B : List
       as-alone paused.way paused.tree result goes answered
       (held.0, none-under held.0 paused held.1 (subst (λ (p : Point). HasNone p held.1.given) is held.1.none))
   point-alone paused (point.Meant meaning) result is goes answered held truly =
-      from-alone paused.way meaning result goes answered (
-        paused.tree,
-        (held.0, none-under held.0 paused held.1 (subst (λ (p : Point). HasNone p held.1.given) is held.1.none)),
-        λ told_is.
-            let true_held : IsTrulyHeld (entries_of before.house) paused = truly told_is in
-            subst (PointIsTrue (meant (take paused.way.place (entries_of before.house)) paused.tree) true_held.held.given) is true_held.truly,
-      )
+      from-alone paused.way paused.tree meaning result goes answered
+      (held.0, none-under held.0 paused held.1 (subst (λ (p : Point). HasNone p held.1.given) is held.1.none))
+      (λ told_is.
+      let true_held : IsTrulyHeld (entries_of before.house) paused = truly told_is in
+      subst (PointIsTrue (meant (take paused.way.place (entries_of before.house)) paused.tree) true_held.held.given) is true_held.truly)
   point-alone paused (point.Ready ready) result is goes answered held truly =
       ends-alone paused.way.txn.0 (Concludes paused.way.txn.0 now ready) result goes answered
       (λ found added adds ends.
       behind-own faults B alone.nothing held.0 paused.tree paused.way.place held.1.given paused.way.txn.0 own own' before now held.1.under_way []
       (ConcludesSo paused.way.txn.0 now ready) found added tt adds ends)
-      (λ told_is reply added whose gained ends.
+      (λ told_is reply added whose gained fit ends.
       let true_held : IsTrulyHeld (entries_of before.house) paused = truly told_is in
       ready-truly now (entries_of before.house) true_held.asking paused.way.txn.0 paused.way.place paused.tree true_held.held.given ready true_held.held.under_way
       (subst (PointIsTrue (meant (take paused.way.place (entries_of before.house)) paused.tree) true_held.held.given) is true_held.truly) reply added whose ends)
 
   pub held-alone : (paused : Paused) (result : Result Done HouseFault)
-      → Goes told faults B meanwhile (faults_in faults before) paused.way.txn.0 own own' before now (Finishes told now paused) result
+      → Goes (among told faults B meanwhile) (faults_in faults before) paused.way.txn.0 (known own before) (known own' now) (Finishes told now paused) result
       → (IsToldHouse told before.house → IfOk result (AnswersTruly paused.way.txn.0 now)) → IsHeldBySome (entries_of before.house) paused
       → (IsToldHouse told before.house → IsTrulyHeld (entries_of before.house) paused)
       → EndsAlone told faults paused.way.txn.0 before.house now.house result

@@ -2,6 +2,7 @@
 -- of it.
 use Rattle.std.proofs.Common.{◌≡◌, ◌⊎◌, inl, inr, ℕ, false, Option, Some, None, List, [], ◌∷◌, ◌++◌, take, refl, sym, ap, ◌∙◌, subst, append-nil, Ok, Err, Result}
 use Rattle.std.specs.Prelude.{IfOk}
+use Rattle.std.specs.List.{AllByRecursion}
 use Rattle.hv_base.specs.declared.gate.Stage.{Stage}
 use Rattle.hv_base.specs.declared.gate.Stage.TheVariants as stage
 use Rattle.hv_base.specs.declared.refusal.Refusal.{Refusal}
@@ -12,41 +13,46 @@ use Rattle.hv_logic.specs.declared.meaning.Meaning.TheVariants.{Listing, Change,
 use Rattle.hv_history.specs.declared.entry.Entry.{Entry}
 use Rattle.hv_history.specs.declared.entry.Cause.{Cause}
 use Rattle.hv_history.specs.declared.entry.Cause.TheVariants as cause
-use Rattle.hv_stands.specs.Running.{Asking, starting, meant, IsUnderWay}
+use Rattle.hv_stands.specs.Running.{Asking, starting, IsOwnCause, meant, IsUnderWay}
 use Rattle.hv_trail.specs.declared.trail.TrailItem.{TrailItem}
-use Rattle.hv_steps.specs.hv_acts.specs.hv_telling.specs.hv_house.specs.declared.fault.HouseFault.{HouseFault}
-use Rattle.hv_steps.specs.hv_acts.specs.hv_telling.specs.hv_house.specs.House.{entries_of}
-use Rattle.hv_steps.specs.hv_acts.specs.hv_telling.specs.Telling.{IsToldHouse}
-use Rattle.hv_steps.specs.hv_acts.specs.hv_telling.proofs.Told.{told-stays}
-use Rattle.hv_steps.specs.hv_acts.specs.declared.told.ToldHouse.{ToldHouse}
-use Rattle.hv_steps.specs.hv_acts.specs.Told.{IsWholeOrClosed, trail_in}
+use Rattle.hv_steps.specs.hv_table_reader.specs.hv_acts.specs.hv_telling.specs.hv_house.specs.declared.fault.HouseFault.{HouseFault}
+use Rattle.hv_steps.specs.hv_table_reader.specs.hv_acts.specs.hv_telling.specs.hv_house.specs.House.{entries_of}
+use Rattle.hv_steps.specs.hv_table_reader.specs.hv_acts.specs.hv_telling.specs.Telling.{IsToldHouse}
+use Rattle.hv_steps.specs.hv_table_reader.specs.hv_acts.specs.hv_telling.proofs.Told.{told-stays}
+use Rattle.hv_steps.specs.hv_table_reader.specs.hv_acts.specs.declared.told.ToldHouse.{ToldHouse}
+use Rattle.hv_steps.specs.hv_table_reader.specs.hv_acts.specs.Told.{IsWholeOrClosed, trail_in}
+use Rattle.hv_steps.specs.hv_table_reader.specs.hv_acts.proofs.Aborts.{own-abort}
 use Rattle.hv_steps.specs.declared.ready.Way.{Way}
 use Rattle.hv_steps.specs.declared.ready.Ready.{Ready}
 use Rattle.hv_steps.specs.declared.reply.Done.{Done}
 use Rattle.hv_steps.specs.declared.reply.Done.TheVariants as done
 use Rattle.hv_steps.specs.declared.reply.Outcome.{Outcome}
 use Rattle.hv_steps.specs.declared.reply.Outcome.TheVariants as outcome
-use Rattle.hv_steps.specs.declared.reply.Prepared.{Prepared}
 use Rattle.hv_steps.specs.declared.reply.Prepared.TheVariants as prepared
 use Rattle.hv_session.specs.declared.paused.Point.{Point}
 use Rattle.hv_session.specs.declared.paused.Point.TheVariants as point
 use Rattle.hv_session.specs.declared.paused.Paused.{Paused}
 use Rattle.hv_session.specs.declared.paused.Carried.{Carried}
 use Rattle.hv_session.specs.declared.paused.Carried.TheVariants as carried
-use Rattle.hv_steps.specs.Ending.{AddsNoneOrId, EndsUncommitted, IsUndamaged, CanEnd, IsReadyToEnd, IsTrulyReady, aborting}
+use Rattle.hv_steps.specs.Ending.{IsAskBy, AddsNoneOrId, AddsAbort, IsUndamaged, CanEnd, IsReadyToEnd, IsTrulyReady, aborting}
 use Rattle.hv_steps.specs.Going.{faults_in, IsOpenHouse, Goes, WasOnWay}
-use Rattle.hv_steps.specs.Phases.{AbortsFor, PreparesTo, EndsEarlyFor, IsWriteFault, GivesId, Prepares, IsUntoldDamage, Sees}
-use Rattle.hv_session.specs.Doing.{EndsFrom, IsUnrefused, StandsAt, carried_of, is_refused, GoesOnTo, GoesToHold}
+use Rattle.hv_steps.specs.Requests.{IsAskIn}
+use Rattle.hv_steps.specs.Phases.{AbortsFor, NoCause, PreparesTo, PreparesAsked, EndsEarlyFor, IsWriteFault, GivesId, Prepares, IsUntoldDamage, Sees}
+use Rattle.hv_session.specs.Doing.{ReadiesTo, EndsFrom, IsUnrefused, StandsAt, carried_of, is_refused, GoesOnTo, GoesToHold, up_to}
 use Rattle.hv_session.specs.Doing as doing
-use Rattle.hv_session.specs.Taking.{EndsEarly, AbortedAtOnce, AbortedGiven, EndsBefore, HoldsAt, IsAtPlace, IsHeld, IsTrulyHeld}
-use Rattle.hv_session.specs.Alone.{HasGained, IsAbortedAlone, SeesSo, IsPreparedAlone}
+use Rattle.hv_session.specs.Taking.{HasAskedAtPoint, EndsEarly, AbortedAtOnce, AbortedBehind, EndsBefore, HoldsAt, IsAtPlace, IsHeld, IsTrulyHeld}
+use Rattle.hv_session.specs.Alone.{HasGained, IsAbortedAlone, SeesSo}
 use Rattle.hv_session.specs.Ways.{ActsAlone, IsPart, IsOnWay, IsOwnEnd, IsFinishedAs, EndsAlone, AddsInOrder, IsInTime, GoesInTime, StandsTruly, GoesAlone}
-use Rattle.hv_session.proofs.Orders.{early-uncommitted, aborted-in-order, prepared-in-order, cut-in-order}
-use Rattle.hv_session.proofs.Takings.{unrefused}
+use Rattle.hv_session.proofs.Orders.{early-uncommitted, aborted-in-order}
+use Rattle.hv_steps.proofs.Books.{all-map}
+use Rattle.hv_session.proofs.Takings.{unrefused, same-done, asked-truly}
 use Rattle.hv_session.proofs.AloneBooks.{adds-alone}
 use Rattle.hv_session.proofs.AloneStops.{parts-alone}
 use Rattle.hv_session.proofs.AloneEnds.{sees-alone}
-use Rattle.hv_session.proofs.AlonePrepares.{early-plain, write-plain, or-plain, prepares-alone}
+use Rattle.hv_session.proofs.AlonePrepares.{early-plain, write-plain, or-plain}
+use Rattle.hv_session.proofs.AloneFinishes.{from-alone}
+use Rattle.hv_session.proofs.AloneReadied.{IsReadiedAlone, asked-at, readied-alone}
+use Rattle.hv_actor.specs.Acting.{among, known}
 
 -- ---- why it ended
 
@@ -55,6 +61,10 @@ untold-early told now why (inr is) = subst EndsEarly (sym is) tt
 untold-early told now (cause.ReadFault count) (inl is) = tt
 untold-early told now (cause.Damaged place) (inl is) = tt
 untold-early told now why (inl is) = absurd is
+
+early-own : (why : Cause) → EndsEarly why → IsOwnCause why
+early-own (cause.Request by_) early = absurd early
+early-own why early = tt
 
 -- in a told house no file is damaged
 untold-whole : {D : Type 0} (told : D → Option Store) (now : ToldHouse D) (txn : ℕ) → IsToldHouse told now.house → (why : Cause)
@@ -72,7 +82,7 @@ refused-early refusal why (inl is) = absurd is
 -- what its abort added
 aborts-added : {D : Type 0} (txn : ℕ) (now : ToldHouse D) (first : List Entry) (Causes : Cause → Type 0) (found : Done) (added : List Entry) → IsOwnEnd found
     → AbortsFor txn now first Causes found added → (why : Cause) × (Causes why ⊎ (why ≡ cause.Memory)) × (added ≡ first ++ aborting txn why ∷ [])
-aborts-added txn now first Causes (done.Gone at) added own ends = absurd own
+aborts-added txn now first Causes (done.Gone reply) added own ends = absurd own
 aborts-added txn now first Causes (done.Replied reply) added own ends =
     (ends.2.why, ends.2.is, ends.1 ∙ ap (λ (e : Entry). first ++ e ∷ []) ends.2.entry_is)
 
@@ -85,20 +95,42 @@ module _ {D : Type 0} (told : D → Option Store) (now : ToldHouse D) (way : Way
       let abort = aborts-added way.txn.0 now [] (IsUntoldDamage told now) found added own ends in
       (abort.0, untold-early told now abort.0 abort.1, ap (λ (es : List Entry). starting way.txn.0 ∷ es) abort.2)
 
+  abbrev IsAsk : Entry → Type 0
+  IsAsk event = IsAskIn now way said event
+
+  by-it : (asks : List Entry) → AllByRecursion IsAsk asks → AllByRecursion (IsAskBy way.txn.0) asks
+  by-it asks all =
+      all-map IsAsk (IsAskBy way.txn.0) (λ event ask. record { other = ask.other; event_is = ask.event_is; apart = ask.apart }) asks all
+
   early-commit : (found : Done) (added : List Entry) → IsOwnEnd found → AbortsFor way.txn.0 now [] (IsUntoldDamage told now) found added
-      → AbortedAtOnce way.txn.0 EndsUncommitted (starting way.txn.0 ∷ added)
+      → AbortedBehind way.txn.0 (starting way.txn.0 ∷ added)
   early-commit found added own ends =
       let abort = aborts-added way.txn.0 now [] (IsUntoldDamage told now) found added own ends in
-      (abort.0, early-uncommitted abort.0 (untold-early told now abort.0 abort.1), ap (λ (es : List Entry). starting way.txn.0 ∷ es) abort.2)
+      ([], added, tt, ([], abort.0, inl refl, early-uncommitted abort.0 (untold-early told now abort.0 abort.1), abort.2), refl)
 
   -- one that is refused is just aborted
-  refused-read : (meaning : Meaning) (found : Done) (added : List Entry) → (IsUnrefused meaning → ⊥) → IsOwnEnd found → EndsFrom way.txn.0 now meaning found added
+  prepared-refused : (refusal : Refusal) (found : Done) (added : List Entry) → IsOwnEnd found → Prepares way.txn.0 now (Refused refusal) (prepared.Ended found) added
       → AbortedAtOnce way.txn.0 EndsEarly (starting way.txn.0 ∷ added)
-  refused-read (Refused refusal) found added waits own (inl (inl ends)) =
+  prepared-refused refusal found added own (inl ends) =
       let abort = aborts-added way.txn.0 now [] (EndsEarlyFor (Refused refusal)) found added own ends in
       (abort.0, refused-early refusal abort.0 abort.1, ap (λ (es : List Entry). starting way.txn.0 ∷ es) abort.2)
-  refused-read (Refused refusal) found added waits own (inl (inr broken)) = absurd broken.1
-  refused-read (Refused refusal) found added waits own (inr ready) = absurd ready.2
+  prepared-refused refusal found added own (inr broken) = absurd broken.1
+
+  asked-refused : (refusal : Refusal) (found : Done) (added : List Entry) → IsOwnEnd found
+      → PreparesAsked way.txn.0 now IsAsk (Refused refusal) (prepared.Ended found) added → AbortedAtOnce way.txn.0 EndsEarly (starting way.txn.0 ∷ added)
+  asked-refused refusal found added own (inl is) = by is.5
+    where
+      by : (is.0 ≡ []) ⊎ (Refused refusal ≡ Plain) → AbortedAtOnce way.txn.0 EndsEarly (starting way.txn.0 ∷ added)
+      by (inl none) =
+          subst (λ (es : List Entry). AbortedAtOnce way.txn.0 EndsEarly (starting way.txn.0 ∷ es))
+          (sym (is.2 ∙ ap (λ (es : List Entry). es ++ is.1) none)) (prepared-refused refusal found is.1 own is.4)
+      by (inr plain) = let never : Refused refusal ≡ Plain = plain in cc
+  asked-refused refusal found added own (inr is) = let never : Refused refusal ≡ Plain = is.3 in cc
+
+  refused-read : (meaning : Meaning) (found : Done) (added : List Entry) → (IsUnrefused meaning → ⊥) → IsOwnEnd found → EndsFrom now way said meaning found added
+      → AbortedAtOnce way.txn.0 EndsEarly (starting way.txn.0 ∷ added)
+  refused-read (Refused refusal) found added waits own (inl asked) = asked-refused refusal found added own asked
+  refused-read (Refused refusal) found added waits own (inr ready) = absurd ready.2.4
   refused-read (Listing names rows) found added waits own ends = absurd (waits tt)
   refused-read (Change info effect) found added waits own ends = absurd (waits tt)
   refused-read (Make shape) found added waits own ends = absurd (waits tt)
@@ -109,42 +141,47 @@ module _ {D : Type 0} (told : D → Option Store) (now : ToldHouse D) (way : Way
   refused-read Plain found added waits own ends = absurd (waits tt)
 
   -- behind its write id
-  broken-commit : (meaning : Meaning) (first : List Entry) (found : Done) (added : List Entry) → IsOwnEnd found → GivesId way.txn.0 meaning first
-      → AbortsFor way.txn.0 now first IsWriteFault found added → AbortedGiven way.txn.0 EndsUncommitted (starting way.txn.0 ∷ added)
-  broken-commit (Change info effect) first found added own gives ends =
-      let abort = aborts-added way.txn.0 now first IsWriteFault found added own ends in (
-        abort.0,
-        info.table,
-        gives.0,
-        (or-plain IsWriteFault write-plain abort.0 abort.1).uncommitted,
-        ap (λ (es : List Entry). starting way.txn.0 ∷ es) (abort.2 ∙ ap (λ (es : List Entry). es ++ aborting way.txn.0 abort.0 ∷ []) gives.2),
-      )
-  broken-commit (Listing names rows) first found added own gives ends = absurd gives
-  broken-commit (Make shape) first found added own gives ends = absurd gives
-  broken-commit (Unmake table) first found added own gives ends = absurd gives
-  broken-commit (Refused refusal) first found added own gives ends = absurd gives
-  broken-commit (Twice region row) first found added own gives ends = absurd gives
-  broken-commit RowLimit first found added own gives ends = absurd gives
-  broken-commit PartitionLimit first found added own gives ends = absurd gives
-  broken-commit Plain first found added own gives ends = absurd gives
+  gives-id : (meaning : Meaning) (first : List Entry) → GivesId way.txn.0 meaning first → AddsNoneOrId way.txn.0 first
+  gives-id (Change info effect) first gives = inr (info.table, gives.0, gives.2)
+  gives-id (Listing names rows) first gives = absurd gives
+  gives-id (Make shape) first gives = absurd gives
+  gives-id (Unmake table) first gives = absurd gives
+  gives-id (Refused refusal) first gives = absurd gives
+  gives-id (Twice region row) first gives = absurd gives
+  gives-id RowLimit first gives = absurd gives
+  gives-id PartitionLimit first gives = absurd gives
+  gives-id Plain first gives = absurd gives
 
-  prepared-commit : (meaning : Meaning) (found : Done) (added : List Entry) → IsOwnEnd found → Prepares way.txn.0 now meaning (prepared.Ended found) added
-      → AbortedAtOnce way.txn.0 EndsUncommitted (starting way.txn.0 ∷ added) ⊎ AbortedGiven way.txn.0 EndsUncommitted (starting way.txn.0 ∷ added)
-  prepared-commit meaning found added own (inl ends) =
+  cut-commit : (meaning : Meaning) (found : Done) (added : List Entry) → IsOwnEnd found → Prepares way.txn.0 now meaning (prepared.Ended found) added
+      → AddsAbort way.txn.0 added
+  cut-commit meaning found added own (inl ends) =
       let abort = aborts-added way.txn.0 now [] (EndsEarlyFor meaning) found added own ends in
-      inl (
-        abort.0,
-        (or-plain (EndsEarlyFor meaning) (early-plain meaning) abort.0 abort.1).uncommitted,
+      ([], abort.0, inl refl, (or-plain (EndsEarlyFor meaning) (early-plain meaning) abort.0 abort.1).uncommitted, abort.2)
+  cut-commit meaning found added own (inr broken) =
+      let abort = aborts-added way.txn.0 now broken.0 IsWriteFault found added own broken.2 in
+      (broken.0, abort.0, gives-id meaning broken.0 broken.1, (or-plain IsWriteFault write-plain abort.0 abort.1).uncommitted, abort.2)
+
+  prepared-commit : (meaning : Meaning) (found : Done) (added : List Entry) → IsOwnEnd found
+      → PreparesAsked way.txn.0 now IsAsk meaning (prepared.Ended found) added → AbortedBehind way.txn.0 (starting way.txn.0 ∷ added)
+  prepared-commit meaning found added own (inl is) =
+      (is.0, is.1, by-it is.0 is.3, cut-commit meaning found is.1 own is.4, ap (λ (es : List Entry). starting way.txn.0 ∷ es) is.2)
+  prepared-commit meaning found added own (inr is) =
+      let abort =
+      aborts-added way.txn.0 now is.2.0 NoCause found added own
+      (subst (λ (d : Done). AbortsFor way.txn.0 now is.2.0 NoCause d added) (sym (same-done found is.0 is.1)) is.2.2) in (
+        is.2.0,
+        aborting way.txn.0 abort.0 ∷ [],
+        by-it is.2.0 is.2.1,
+        ([], abort.0, inl refl, (or-plain NoCause (λ why never. absurd never) abort.0 abort.1).uncommitted, refl),
         ap (λ (es : List Entry). starting way.txn.0 ∷ es) abort.2,
       )
-  prepared-commit meaning found added own (inr broken) = inr (broken-commit meaning broken.0 found added own broken.1 broken.2)
 
   ended-in-time : (hold : Option Stage) (found : Done) (added : List Entry) → IsOwnEnd found → doing.EndsBefore told now way said hold found added
       → EndsBefore hold way.txn.0 (starting way.txn.0 ∷ added)
   ended-in-time None found added own ends = tt
   ended-in-time (Some stage.Read) found added own (inl ends) = inr (early-read found added own ends)
   ended-in-time (Some stage.Read) found added own (inr ends) = inr (refused-read ends.0 found added ends.2 own ends.3)
-  ended-in-time (Some stage.Commit) found added own (inl ends) = inr (inl (early-commit found added own ends))
+  ended-in-time (Some stage.Commit) found added own (inl ends) = inr (early-commit found added own ends)
   ended-in-time (Some stage.Commit) found added own (inr ends) = inr (prepared-commit ends.0 found added own ends.2)
   ended-in-time (Some stage.Start) found added own ends = absurd ends
   ended-in-time (Some stage.Taken) found added own ends = absurd ends
@@ -168,15 +205,16 @@ module _ {D : Type 0} (told : D → Option Store) (now : ToldHouse D) (way : Way
   ready-added PartitionLimit ready added so = absurd so
   ready-added Plain ready added so = inl so.0
 
-  id-held : (added : List Entry) → AddsNoneOrId way.txn.0 added → HoldsAt (Some stage.Commit) way.txn.0 (starting way.txn.0 ∷ added)
-  id-held added (inl none) = inl (ap (λ (es : List Entry). starting way.txn.0 ∷ es) none)
-  id-held added (inr id) = inr (id.0, id.1, ap (λ (es : List Entry). starting way.txn.0 ∷ es) id.2)
+  readied-held : (meaning : Meaning) (ready : Ready) (added : List Entry) → ReadiesTo now way said meaning ready added
+      → HoldsAt (Some stage.Commit) way.txn.0 (starting way.txn.0 ∷ added)
+  readied-held meaning ready added so =
+      (so.0, so.1, by-it so.0 so.3, ready-added meaning ready so.1 so.4, ap (λ (es : List Entry). starting way.txn.0 ∷ es) so.2)
 
   stands-in-time : (hold : Stage) (at : Point) (added : List Entry) → doing.IsAtPlace hold at → StandsAt told now way said at added
       → HoldsAt (Some hold) way.txn.0 (starting way.txn.0 ∷ added)
   stands-in-time stage.Start point.Started added place stands = ap (λ (es : List Entry). starting way.txn.0 ∷ es) stands
   stands-in-time stage.Read (point.Meant meaning) added place stands = ap (λ (es : List Entry). starting way.txn.0 ∷ es) stands.0
-  stands-in-time stage.Commit (point.Ready ready) added place stands = id-held added (ready-added stands.0 ready added stands.2)
+  stands-in-time stage.Commit (point.Ready ready) added place stands = readied-held stands.0 ready added stands.2
   stands-in-time hold at added place stands = absurd place
 
   kept-in-time : (hold : Option Stage) (at : Stage) (paused : Paused) (added : List Entry) → hold ≡ Some at → doing.IsAtPlace at paused.point → paused.way ≡ way
@@ -193,7 +231,7 @@ IsOwned (carried.Ended found) = IsOwnEnd found
 IsOwned found = Unit {0}
 
 goes-in-time : {D : Type 0} (told : D → Option Store) (now : ToldHouse D) (asking : Asking) (way : Way) (said : Stmt) (hold : Option Stage) (found : Carried) (added : List Entry)
-    → IsOwned found → GoesOnTo told now asking way said hold found added → IsInTime hold way.txn.0 added found
+    → IsOwned found → GoesOnTo told now asking way (up_to said hold) found added → IsInTime hold way.txn.0 added found
 goes-in-time told now asking way said hold (carried.Ended found) added own goes = (own, ended-in-time told now way said hold found added own goes)
 goes-in-time told now asking way said hold (carried.Kept paused) added own goes = kept-in-time told now way said hold goes.0 paused added goes.1 goes.2 goes.3 goes.6
 goes-in-time told now asking way said hold (carried.Full entries) added own goes = absurd goes
@@ -203,12 +241,13 @@ module _ {D : Type 0} (told : D → Option Store) (faults : D → ℕ) (B : List
     (acts : ActsAlone B meanwhile) where
   module _ (own own' : List ℕ) (a b : ToldHouse D) (was : Asking) (way : Way) (said : Stmt) (hold : Option Stage) (on : WasOnWay (trail_in a) was way said)
       (running : IsOpenHouse a) (kept : IsWholeOrClosed told b.house) where
-    pub holds-part : (result : Result Carried HouseFault) → GoesToHold told faults B meanwhile way said hold own own' a b result
+    pub holds-part : (result : Result Carried HouseFault) → GoesToHold (among told faults B meanwhile) way (up_to said hold) (known own a) (known own' b) result
         → IsPart told faults way.txn.0 a.house b.house result
     holds-part result held =
-        parts-alone told faults B acts.nothing meanwhile acts.alone Carried way.txn.0 own own' a b (GoesOnTo told b was way said hold) result running kept (held.goes was on)
+        parts-alone told faults B acts.nothing meanwhile acts.alone Carried way.txn.0 own own' a b (GoesOnTo told b was way (up_to said hold)) result running
+        kept (held.goes was on)
 
-    holds-in-time : (found : Carried) → GoesToHold told faults B meanwhile way said hold own own' a b (Ok found) → IsOwned found
+    holds-in-time : (found : Carried) → GoesToHold (among told faults B meanwhile) way (up_to said hold) (known own a) (known own' b) (Ok found) → IsOwned found
         → GoesInTime hold way.txn.0 (entries_of a.house) (entries_of b.house) found
     holds-in-time found held owned =
         let goes = held.goes was on in
@@ -220,9 +259,10 @@ module _ {D : Type 0} (told : D → Option Store) (faults : D → ℕ) (B : List
         }
 
     -- it has ended
-    pub ended-goes : (found : Done) → GoesToHold told faults B meanwhile way said hold own own' a b (Ok (carried.Ended found)) → IsOwnEnd found
+    pub ended-goes : (found : Done) → GoesToHold (among told faults B meanwhile) way (up_to said hold) (known own a) (known own' b) (Ok (carried.Ended found))
+        → IsOwnEnd found
         → (IsToldHouse told a.house → IsFinishedAs (entries_of a.house) (entries_of b.house) way.txn.0 found)
-        → GoesAlone told faults way said hold a.house b.house (Ok (carried.Ended found))
+        → GoesAlone told faults way (up_to said hold) a.house b.house (Ok (carried.Ended found))
     ended-goes found held owned truly = record {
       part = holds-part (Ok (carried.Ended found)) held;
       goes = holds-in-time (carried.Ended found) held owned;
@@ -231,15 +271,15 @@ module _ {D : Type 0} (told : D → Option Store) (faults : D → ℕ) (B : List
     }
 
     -- the run stopped
-    pub halted-goes : (why : HouseFault) → GoesToHold told faults B meanwhile way said hold own own' a b (Err why)
-        → GoesAlone told faults way said hold a.house b.house (Err why)
+    pub halted-goes : (why : HouseFault) → GoesToHold (among told faults B meanwhile) way (up_to said hold) (known own a) (known own' b) (Err why)
+        → GoesAlone told faults way (up_to said hold) a.house b.house (Err why)
     halted-goes why held = record { part = holds-part (Err why) held; goes = tt; stands = λ asking under. tt; truly = λ is. tt }
 
     -- it is held
-    kept-goes : (paused : Paused) → GoesToHold told faults B meanwhile way said hold own own' a b (Ok (carried.Kept paused))
+    kept-goes : (paused : Paused) → GoesToHold (among told faults B meanwhile) way (up_to said hold) (known own a) (known own' b) (Ok (carried.Kept paused))
         → ((asking : Asking) → IsUnderWay (entries_of a.house) asking way.txn.0 way.place said [] → IsHeld (entries_of b.house) asking paused)
         → (IsToldHouse told a.house → IsTrulyHeld (entries_of b.house) paused × AddsInOrder (entries_of a.house) (entries_of b.house))
-        → GoesAlone told faults way said hold a.house b.house (Ok (carried.Kept paused))
+        → GoesAlone told faults way (up_to said hold) a.house b.house (Ok (carried.Kept paused))
     kept-goes paused held stands truly = record {
       part = holds-part (Ok (carried.Kept paused)) held;
       goes = holds-in-time (carried.Kept paused) held tt;
@@ -247,18 +287,20 @@ module _ {D : Type 0} (told : D → Option Store) (faults : D → ℕ) (B : List
       truly = truly;
     }
 
-    as-carried : (result : Result Done HouseFault) → GoesToHold told faults B meanwhile way said hold own own' a b (carried_of result)
-        → EndsAlone told faults way.txn.0 a.house b.house result → GoesAlone told faults way said hold a.house b.house (carried_of result)
+    as-carried : (result : Result Done HouseFault) → GoesToHold (among told faults B meanwhile) way (up_to said hold) (known own a) (known own' b)
+        (carried_of result)
+        → EndsAlone told faults way.txn.0 a.house b.house result → GoesAlone told faults way (up_to said hold) a.house b.house (carried_of result)
     as-carried (Ok found) held ends = ended-goes found held ends.own ends.truly
     as-carried (Err why) held ends = halted-goes why held
 
     -- how it ends is how it goes on
     pub ends-goes : (result : Result Done HouseFault) (other : Result Carried HouseFault) → other ≡ carried_of result
-        → GoesToHold told faults B meanwhile way said hold own own' a b other → EndsAlone told faults way.txn.0 a.house b.house result
-        → GoesAlone told faults way said hold a.house b.house other
+        → GoesToHold (among told faults B meanwhile) way (up_to said hold) (known own a) (known own' b) other
+        → EndsAlone told faults way.txn.0 a.house b.house result
+        → GoesAlone told faults way (up_to said hold) a.house b.house other
     ends-goes result other is held ends =
-        subst (GoesAlone told faults way said hold a.house b.house) (sym is)
-        (as-carried result (subst (GoesToHold told faults B meanwhile way said hold own own' a b) is held) ends)
+        subst (GoesAlone told faults way (up_to said hold) a.house b.house) (sym is)
+        (as-carried result (subst (GoesToHold (among told faults B meanwhile) way (up_to said hold) (known own a) (known own' b)) is held) ends)
 
   -- ---- what it sees
 
@@ -273,7 +315,7 @@ module _ {D : Type 0} (told : D → Option Store) (faults : D → ℕ) (B : List
       subst (IsFinishedAs (entries_of a.house) (entries_of b.house) way.txn.0) (sym abort.is) (record {
         added = aborting way.txn.0 abort.why ∷ [];
         book = abort.book;
-        of_it = (refl, tt);
+        of_it = (own-abort way.txn abort.why (early-own abort.why (untold-early told b abort.why abort.caused)), tt);
         undamaged = (untold-whole told b way.txn.0 is abort.why abort.caused, tt);
         answered = abort.replied;
         in_order = aborted-in-order (entries_of a.house) asking way.txn.0 way.place said [] under abort.why
@@ -281,41 +323,46 @@ module _ {D : Type 0} (told : D → Option Store) (faults : D → ℕ) (B : List
       })
 
   module _ (own own' : List ℕ) (a b : ToldHouse D) (way : Way) (said : Stmt) (kept : IsWholeOrClosed told b.house) (on : IsOnWay (entries_of a.house) way said) where
-    pub seen-so : (found : Outcome) → Goes told faults B meanwhile (faults_in faults a) way.txn.0 own own' a b (Sees told b way said) (Ok found) → SeesSo told way said a b found
+    pub seen-so : (found : Outcome) → Goes (among told faults B meanwhile) (faults_in faults a) way.txn.0 (known own a) (known own' b) (Sees told b way said)
+        (Ok found) → SeesSo told way said a b found
     seen-so found sees = sees-alone faults B acts.nothing told on.0 said way (faults_in faults a) own own' a b found on.1 kept sees.done
 
-    pub seen-start : (found : Outcome) → Goes told faults B meanwhile (faults_in faults a) way.txn.0 own own' a b (Sees told b way said) (Ok found)
+    pub seen-start : (found : Outcome) → Goes (among told faults B meanwhile) (faults_in faults a) way.txn.0 (known own a) (known own' b) (Sees told b way said)
+        (Ok found)
         → b.house.start ≡ a.house.start
     seen-start found sees = (adds-alone faults B acts.nothing own own' a b sees.done.added sees.done.adds).start
 
-    pub unseen-own : (found : Done) → Goes told faults B meanwhile (faults_in faults a) way.txn.0 own own' a b (Sees told b way said) (Ok (outcome.Ended found)) → IsOwnEnd found
+    pub unseen-own : (found : Done) → Goes (among told faults B meanwhile) (faults_in faults a) way.txn.0 (known own a) (known own' b) (Sees told b way said)
+        (Ok (outcome.Ended found)) → IsOwnEnd found
     unseen-own found sees = aborted-own way.txn.0 (IsUntoldDamage told b) a b found (seen-so (outcome.Ended found) sees)
 
-    pub unseen-finished : (found : Done) → Goes told faults B meanwhile (faults_in faults a) way.txn.0 own own' a b (Sees told b way said) (Ok (outcome.Ended found))
+    pub unseen-finished : (found : Done) → Goes (among told faults B meanwhile) (faults_in faults a) way.txn.0 (known own a) (known own' b)
+        (Sees told b way said) (Ok (outcome.Ended found))
         → IsToldHouse told a.house → IsFinishedAs (entries_of a.house) (entries_of b.house) way.txn.0 found
     unseen-finished found sees is =
         aborted-finished a b on.0 way said found on.1 (told-stays told a.house b.house (seen-start (outcome.Ended found) sees) is) (seen-so (outcome.Ended found) sees)
 
     pub unseen-goes : (was : Asking) (hold : Option Stage) (found : Done) → WasOnWay (trail_in a) was way said → IsOpenHouse a
-        → Goes told faults B meanwhile (faults_in faults a) way.txn.0 own own' a b (Sees told b way said) (Ok (outcome.Ended found))
-        → GoesToHold told faults B meanwhile way said hold own own' a b (Ok (carried.Ended found))
-        → GoesAlone told faults way said hold a.house b.house (Ok (carried.Ended found))
+        → Goes (among told faults B meanwhile) (faults_in faults a) way.txn.0 (known own a) (known own' b) (Sees told b way said) (Ok (outcome.Ended found))
+        → GoesToHold (among told faults B meanwhile) way (up_to said hold) (known own a) (known own' b) (Ok (carried.Ended found))
+        → GoesAlone told faults way (up_to said hold) a.house b.house (Ok (carried.Ended found))
     unseen-goes was hold found was_on running sees held =
         ended-goes own own' a b was way said hold was_on running kept found held (unseen-own found sees) (unseen-finished found sees)
 
     -- what it goes on to behind what it saw
     pub seen-goes : (own'' : List ℕ) (c : ToldHouse D) (was : Asking) (hold : Option Stage) (meaning : Meaning) (result : Result Carried HouseFault)
         → WasOnWay (trail_in a) was way said → IsOpenHouse a → IsWholeOrClosed told c.house
-        → Goes told faults B meanwhile (faults_in faults a) way.txn.0 own own' a b (Sees told b way said) (Ok (outcome.Means meaning))
-        → GoesToHold told faults B meanwhile way said hold own own'' a c result
+        → Goes (among told faults B meanwhile) (faults_in faults a) way.txn.0 (known own a) (known own' b) (Sees told b way said) (Ok (outcome.Means meaning))
+        → GoesToHold (among told faults B meanwhile) way (up_to said hold) (known own a) (known own'' c) result
         → (IsOnWay (entries_of b.house) way said → CanEnd (entries_of b.house) meaning
-        → (IsToldHouse told b.house → meant (take way.place (entries_of b.house)) said ≡ Some meaning) → GoesAlone told faults way said hold b.house c.house result)
-        → GoesAlone told faults way said hold a.house c.house result
+        → (IsToldHouse told b.house → meant (take way.place (entries_of b.house)) said ≡ Some meaning)
+        → GoesAlone told faults way (up_to said hold) b.house c.house result)
+        → GoesAlone told faults way (up_to said hold) a.house c.house result
     seen-goes own'' c was hold meaning result was_on running kept_then sees held then =
         let so = seen-so (outcome.Means meaning) sees in
         let start : b.house.start ≡ a.house.start = seen-start (outcome.Means meaning) sees in
         let same : entries_of b.house ≡ entries_of a.house = so.0 in
-        let goes : GoesAlone told faults way said hold b.house c.house result =
+        let goes : GoesAlone told faults way (up_to said hold) b.house c.house result =
         then (on.0, subst (λ (book : List Entry). IsUnderWay book on.0 way.txn.0 way.place said []) (sym same) on.1) so.1
         (λ is. so.2 (told-stays told b.house a.house (sym start) is)) in
         record {
@@ -339,11 +386,13 @@ module _ {D : Type 0} (told : D → Option Store) (faults : D → ℕ) (B : List
         → IsHeld (entries_of a.house) asking (record { way = way; tree = said; point = point.Started })
     started-held asking under = record { given = []; under_way = under; none = refl; can = tt; unrefused = tt }
 
-    pub started-goes : GoesToHold told faults B meanwhile way said (Some stage.Start) own own a a (Ok (carried.Kept (record { way = way; tree = said; point = point.Started })))
-        → GoesAlone told faults way said (Some stage.Start) a.house a.house (Ok (carried.Kept (record { way = way; tree = said; point = point.Started })))
+    pub started-goes : GoesToHold (among told faults B meanwhile) way (up_to said (Some stage.Start)) (known own a) (known own a)
+        (Ok (carried.Kept (record { way = way; tree = said; point = point.Started })))
+        → GoesAlone told faults way (up_to said (Some stage.Start)) a.house a.house
+        (Ok (carried.Kept (record { way = way; tree = said; point = point.Started })))
     started-goes held =
         kept-goes own own a a was way said (Some stage.Start) on running kept (record { way = way; tree = said; point = point.Started }) held started-held
-        (λ is. (record { asking = is_on.0; held = started-held is_on.0 is_on.1; truly = tt }, none-added))
+        (λ is. (record { asking = is_on.0; held = started-held is_on.0 is_on.1; truly = tt; asked = tt }, none-added))
 
     meant-held : (meaning : Meaning) → CanEnd (entries_of a.house) meaning → is_refused meaning ≡ false
         → (asking : Asking) → IsUnderWay (entries_of a.house) asking way.txn.0 way.place said []
@@ -352,12 +401,14 @@ module _ {D : Type 0} (told : D → Option Store) (faults : D → ℕ) (B : List
 
     pub meant-goes : (meaning : Meaning) → CanEnd (entries_of a.house) meaning → is_refused meaning ≡ false
         → (IsToldHouse told a.house → meant (take way.place (entries_of a.house)) said ≡ Some meaning)
-        → GoesToHold told faults B meanwhile way said (Some stage.Read) own own a a (Ok (carried.Kept (record { way = way; tree = said; point = point.Meant meaning })))
-        → GoesAlone told faults way said (Some stage.Read) a.house a.house (Ok (carried.Kept (record { way = way; tree = said; point = point.Meant meaning })))
+        → GoesToHold (among told faults B meanwhile) way (up_to said (Some stage.Read)) (known own a) (known own a)
+        (Ok (carried.Kept (record { way = way; tree = said; point = point.Meant meaning })))
+        → GoesAlone told faults way (up_to said (Some stage.Read)) a.house a.house
+        (Ok (carried.Kept (record { way = way; tree = said; point = point.Meant meaning })))
     meant-goes meaning can not means held =
         kept-goes own own a a was way said (Some stage.Read) on running kept (record { way = way; tree = said; point = point.Meant meaning }) held
         (meant-held meaning can not)
-        (λ is. (record { asking = is_on.0; held = meant-held meaning can not is_on.0 is_on.1; truly = means is }, none-added))
+        (λ is. (record { asking = is_on.0; held = meant-held meaning can not is_on.0 is_on.1; truly = means is; asked = tt }, none-added))
 
   -- ---- where all but its end is done
 
@@ -365,60 +416,53 @@ module _ {D : Type 0} (told : D → Option Store) (faults : D → ℕ) (B : List
       (running : IsOpenHouse a) (kept : IsWholeOrClosed told b.house) (is_on : IsOnWay (entries_of a.house) way said)
       (can : CanEnd (entries_of a.house) meaning)
       (means : IsToldHouse told a.house → meant (take way.place (entries_of a.house)) said ≡ Some meaning) where
-    prepared-so : (found : Prepared) → Goes told faults B meanwhile (faults_in faults a) way.txn.0 own own' a b (Prepares way.txn.0 b meaning) (Ok found)
-        → (asking : Asking) → IsUnderWay (entries_of a.house) asking way.txn.0 way.place said [] → IsPreparedAlone faults asking said way meaning a b found
-    prepared-so found goes asking under =
-        prepares-alone told faults B acts.nothing asking said way own own' a b meaning found under can kept goes.done
-
     ready-held : (ready : Ready) (asking : Asking) → IsReadyToEnd (entries_of b.house) asking way.txn.0 way.place said ready
         → IsHeld (entries_of b.house) asking (record { way = way; tree = said; point = point.Ready ready })
     ready-held ready asking to_end = record { given = to_end.given; under_way = to_end.under_way; none = tt; can = to_end.can; unrefused = tt }
 
     ready-truly : (ready : Ready) (asking : Asking) → IsTrulyReady (entries_of b.house) asking way.txn.0 way.place said ready
+        → HasAskedAtPoint (entries_of b.house) way.txn.0 (point.Ready ready)
         → IsTrulyHeld (entries_of b.house) (record { way = way; tree = said; point = point.Ready ready })
     unfolding ready-held
-    ready-truly ready asking truly = record { asking = asking; held = ready-held ready asking truly.to_end; truly = truly.truly }
+    ready-truly ready asking truly asked = record { asking = asking; held = ready-held ready asking truly.to_end; truly = truly.truly; asked = asked }
 
     pub ready-goes : (ready : Ready)
-        → Goes told faults B meanwhile (faults_in faults a) way.txn.0 own own' a b (Prepares way.txn.0 b meaning) (Ok (prepared.Ready ready))
-        → GoesToHold told faults B meanwhile way said (Some stage.Commit) own own' a b (Ok (carried.Kept (record { way = way; tree = said; point = point.Ready ready })))
-        → GoesAlone told faults way said (Some stage.Commit) a.house b.house (Ok (carried.Kept (record { way = way; tree = said; point = point.Ready ready })))
+        → Goes (among told faults B meanwhile) (faults_in faults a) way.txn.0 (known own a) (known own' b)
+        (PreparesAsked way.txn.0 b (IsAskIn b way said) meaning) (Ok (prepared.Ready ready))
+        → GoesToHold (among told faults B meanwhile) way (up_to said (Some stage.Commit)) (known own a) (known own' b)
+        (Ok (carried.Kept (record { way = way; tree = said; point = point.Ready ready })))
+        → GoesAlone told faults way (up_to said (Some stage.Commit)) a.house b.house
+        (Ok (carried.Kept (record { way = way; tree = said; point = point.Ready ready })))
     ready-goes ready goes held =
-        let so : IsPreparedAlone faults is_on.0 said way meaning a b (prepared.Ready ready) = prepared-so (prepared.Ready ready) goes is_on.0 is_on.1 in
+        let so : (asking : Asking) → IsUnderWay (entries_of a.house) asking way.txn.0 way.place said [] → IsReadiedAlone asking said way meaning a b ready =
+        λ asking under. readied-alone told faults B acts.nothing own own' a b way said meaning kept can ready goes.done asking under in
         kept-goes own own' a b was way said (Some stage.Commit) on running kept (record { way = way; tree = said; point = point.Ready ready }) held
-        (λ asking under. ready-held ready asking (prepared-so (prepared.Ready ready) goes asking under).stands)
+        (λ asking under. ready-held ready asking (so asking under).stands)
         (λ is. (
-          ready-truly ready is_on.0 (so.truly (means is)),
-          (
-            so.prepares.added,
-            so.prepares.book,
-            prepared-in-order (entries_of a.house) is_on.0 way.txn.0 way.place said is_on.1 meaning (means is) (entries_of b.house) so.prepares.added so.prepares.book
-                so.asked so.prepares.shape,
-          ),
+          ready-truly ready is_on.0 ((so is_on.0 is_on.1).truly (means is))
+              (asked-at told b way is_on.0 said ready (so is_on.0 is_on.1).stands held.can.1
+              (told-stays told a.house b.house (adds-alone faults B acts.nothing own own' a b goes.done.added goes.done.adds).start is)),
+          (so is_on.0 is_on.1).in_order (means is),
         ))
 
     -- it ended on the way
-    prepared-own : (found : Done) → IsPreparedAlone faults is_on.0 said way meaning a b (prepared.Ended found) → IsOwnEnd found
-    prepared-own (done.Replied reply) so = tt
-    prepared-own (done.Gone at) so = so.last
-
-    prepared-finished : (found : Done) → IsToldHouse told a.house → IsPreparedAlone faults is_on.0 said way meaning a b (prepared.Ended found)
-        → IsFinishedAs (entries_of a.house) (entries_of b.house) way.txn.0 found
-    prepared-finished (done.Gone at) is so = so.last
-    prepared-finished (done.Replied reply) is so = record {
-      added = so.prepares.added;
-      book = so.prepares.book;
-      of_it = so.prepares.of_it;
-      undamaged = so.prepares.undamaged;
-      answered = so.truly (means is);
-      in_order = cut-in-order (entries_of a.house) is_on.0 way.txn.0 way.place said is_on.1 meaning (means is) (entries_of b.house) so.prepares.added so.prepares.book
-          so.asked so.prepares.shape;
-    }
-
     pub broken-goes : (found : Done)
-        → Goes told faults B meanwhile (faults_in faults a) way.txn.0 own own' a b (Prepares way.txn.0 b meaning) (Ok (prepared.Ended found))
-        → GoesToHold told faults B meanwhile way said (Some stage.Commit) own own' a b (Ok (carried.Ended found))
-        → GoesAlone told faults way said (Some stage.Commit) a.house b.house (Ok (carried.Ended found))
+        → Goes (among told faults B meanwhile) (faults_in faults a) way.txn.0 (known own a) (known own' b)
+        (PreparesAsked way.txn.0 b (IsAskIn b way said) meaning) (Ok (prepared.Ended found))
+        → GoesToHold (among told faults B meanwhile) way (up_to said (Some stage.Commit)) (known own a) (known own' b) (Ok (carried.Ended found))
+        → GoesAlone told faults way (up_to said (Some stage.Commit)) a.house b.house (Ok (carried.Ended found))
     broken-goes found goes held =
-        let so : IsPreparedAlone faults is_on.0 said way meaning a b (prepared.Ended found) = prepared-so (prepared.Ended found) goes is_on.0 is_on.1 in
-        ended-goes own own' a b was way said (Some stage.Commit) on running kept found held (prepared-own found so) (λ is. prepared-finished found is so)
+        let ends =
+        from-alone told faults B meanwhile acts own own' a b running kept way said meaning (Ok found) (record {
+          done = record {
+            added = goes.done.added;
+            adds = goes.done.adds;
+            of_it = goes.done.of_it;
+            counts = goes.done.counts;
+            is = inl goes.done.is;
+            running = goes.done.running;
+          };
+          halted = tt;
+        })
+        (λ is. asked-truly way.txn.0 b (IsAskIn b way said) meaning found goes.done.added goes.done.is) is_on means in
+        ended-goes own own' a b was way said (Some stage.Commit) on running kept found held ends.own ends.truly

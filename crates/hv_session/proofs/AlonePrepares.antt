@@ -19,12 +19,12 @@ use Rattle.hv_stands.specs.Running.{Asking, IsUnderWay}
 use Rattle.hv_stands.specs.Statements.{AllFitting}
 use Rattle.hv_stands.proofs.Begun.{ids-given}
 use Rattle.hv_trail.specs.declared.trail.TrailItem.{TrailItem}
-use Rattle.hv_steps.specs.hv_acts.specs.hv_telling.specs.hv_house.specs.House.{entries_of}
-use Rattle.hv_steps.specs.hv_acts.specs.declared.told.ToldHouse.{ToldHouse}
-use Rattle.hv_steps.specs.hv_acts.specs.Told.{IsWholeOrClosed}
-use Rattle.hv_steps.specs.hv_acts.proofs.Steps.{book-is}
+use Rattle.hv_steps.specs.hv_table_reader.specs.hv_acts.specs.hv_telling.specs.hv_house.specs.House.{entries_of}
+use Rattle.hv_steps.specs.hv_table_reader.specs.hv_acts.specs.declared.told.ToldHouse.{ToldHouse}
+use Rattle.hv_steps.specs.hv_table_reader.specs.hv_acts.specs.Told.{IsWholeOrClosed}
+use Rattle.hv_steps.specs.hv_table_reader.specs.hv_acts.proofs.Steps.{book-is}
 use Rattle.hv_steps.specs.Ending.{IsUndamaged, HasEndedAt, HasReplied, EndsUncommitted, AddsNoneOrId, IsAskedBy, CanEnd, aborting, giving, idle_end}
-use Rattle.hv_steps.specs.hv_acts.specs.Meant.{IsNoEnd}
+use Rattle.hv_steps.specs.hv_table_reader.specs.hv_acts.specs.Meant.{IsNoEnd}
 use Rattle.hv_steps.specs.declared.ready.Way.{Way}
 use Rattle.hv_steps.specs.declared.ready.Ready.{Ready}
 use Rattle.hv_steps.specs.declared.ready.End.TheVariants as end
@@ -33,15 +33,16 @@ use Rattle.hv_steps.specs.declared.reply.Done.TheVariants as done
 use Rattle.hv_steps.specs.declared.reply.Prepared.TheVariants as prepared
 use Rattle.hv_steps.specs.Going.{faults_in, IsOpenHouse, AddsOwn, Gains}
 use Rattle.hv_steps.specs.Phases.{PreparesTo, IsReadyAs, EndsEarlyFor, IsWriteFault, GivesId, AbortsFor, IsAbortFor}
-use Rattle.hv_session.specs.Alone.{AddsNothing, HasGained, IsPreparedAlone, PreparesAlone}
+use Rattle.hv_session.specs.Alone.{AddsNothing, HasGained, IsPreparedAlone, PreparesAlone, on_its_way}
 use Rattle.hv_steps.proofs.Touched.{touches-none}
 use Rattle.hv_session.proofs.AloneBooks.{adds-alone}
 use Rattle.hv_session.proofs.AloneEnds.{way-runs, runs-open, never-gone, last-named}
 use Rattle.hv_session.proofs.AloneReady.{plain-ready, idle-ready, change-ready}
+use Rattle.hv_actor.specs.Acting.{known}
 
 -- ---- the causes
 
--- it is neither for a conflict nor for a damaged file
+-- it is neither for a conflict nor for a damaged file, and no other transaction asks for it
 pub record IsPlain (why : Cause) : Type 0 where
   pub uncommitted : EndsUncommitted why
   pub undamaged : (txn : ℕ) → IsUndamaged (aborting txn why)
@@ -56,6 +57,17 @@ never-conflict (Twice region row) by_ table partition never = never
 never-conflict RowLimit by_ table partition never = never
 never-conflict PartitionLimit by_ table partition never = never
 never-conflict Plain by_ table partition never = never
+
+never-asked : (meaning : Meaning) (by_ : _) → EndsEarlyFor meaning (cause.Request by_) → ⊥
+never-asked (Listing names rows) by_ never = never
+never-asked (Change info effect) by_ never = never
+never-asked (Make shape) by_ never = never
+never-asked (Unmake table) by_ never = never
+never-asked (Refused why) by_ never = never
+never-asked (Twice region row) by_ never = never
+never-asked RowLimit by_ never = never
+never-asked PartitionLimit by_ never = never
+never-asked Plain by_ never = never
 
 never-damaged : (meaning : Meaning) (place : _) → EndsEarlyFor meaning (cause.Damaged place) → ⊥
 never-damaged (Listing names rows) place never = never
@@ -72,7 +84,7 @@ pub early-plain : (meaning : Meaning) (why : Cause) → EndsEarlyFor meaning why
 early-plain meaning (cause.Conflict by_ table partition) is = absurd (never-conflict meaning by_ table partition is)
 early-plain meaning (cause.Damaged place) is = absurd (never-damaged meaning place is)
 early-plain meaning (cause.Refused number) is = record { uncommitted = tt; undamaged = λ txn. tt }
-early-plain meaning (cause.Request by_) is = record { uncommitted = tt; undamaged = λ txn. tt }
+early-plain meaning (cause.Request by_) is = absurd (never-asked meaning by_ is)
 early-plain meaning cause.Full is = record { uncommitted = tt; undamaged = λ txn. tt }
 early-plain meaning (cause.Twice partition row) is = record { uncommitted = tt; undamaged = λ txn. tt }
 early-plain meaning (cause.Blocked holder) is = record { uncommitted = tt; undamaged = λ txn. tt }
@@ -108,7 +120,7 @@ or-plain Causes plain why (inr is) = subst IsPlain (sym is) (record { uncommitte
 
 pub record IsBefore (book : List Entry) (txn : ℕ) (meaning : Meaning) (first : List Entry) : Type 0 where
   pub shape : AddsNoneOrId txn first
-  pub unended : AllByRecursion IsNoEnd first
+  pub unended : AllByRecursion (IsNoEnd txn) first
   pub undamaged : AllByRecursion IsUndamaged first
   pub asked : AllByRecursion (IsAskedBy meaning) first
   pub runs : Of (state_of (book ++ first)) txn IsRunning
@@ -143,11 +155,12 @@ module _ {D : Type 0} (told : D → Option Store) (faults : D → ℕ) (B : List
     (kept : IsWholeOrClosed told now.house) where
   ended-alone : (meaning : Meaning) (first : List Entry) (Causes : Cause → Type 0) (found : Done) → IsBefore (entries_of before.house) way.txn.0 meaning first
       → ((why : Cause) → Causes why → IsPlain why)
-      → Gains faults B (faults_in faults before) way.txn.0 own own' before now (AbortsFor way.txn.0 now first Causes found)
-      → IsPreparedAlone faults asking said way meaning before now (prepared.Ended found)
-  ended-alone meaning first Causes (done.Gone at) goes_before plain gains =
-      absurd (never-gone faults B none way.txn.0 at own own' before now first (way-runs (entries_of before.house) asking way.txn.0 way.place said [] under)
-      (subst (λ (added : List Entry). AddsOwn faults B own own' before now added) gains.is.0 gains.adds) goes_before.unended gains.is.1)
+      → Gains faults B (faults_in faults before) way.txn.0 (known own before) (known own' now) (AbortsFor way.txn.0 now first Causes found)
+      → IsPreparedAlone faults (on_its_way asking said way) meaning before now (prepared.Ended found)
+  ended-alone meaning first Causes (done.Gone reply) goes_before plain gains =
+      absurd (never-gone faults B none way.txn.0 gains.is.1.at own own' before now first (way-runs (entries_of before.house) asking way.txn.0 way.place said [] under)
+      (subst (λ (added : List Entry). AddsOwn faults B way.txn.0 (known own before) (known own' now) added) gains.is.0 gains.adds) goes_before.unended
+      gains.is.1.gone)
   ended-alone meaning first Causes (done.Replied reply) goes_before plain gains =
       let gained : HasGained faults before now gains.added = adds-alone faults B none own own' before now gains.added gains.adds in
       let last : Entry = gains.is.0 in
@@ -181,12 +194,13 @@ module _ {D : Type 0} (told : D → Option Store) (faults : D → ℕ) (B : List
 
   -- behind its write id
   broken-alone : (meaning : Meaning) (first : List Entry) (found : Done) → GivesId way.txn.0 meaning first
-      → Gains faults B (faults_in faults before) way.txn.0 own own' before now (AbortsFor way.txn.0 now first IsWriteFault found)
-      → IsPreparedAlone faults asking said way meaning before now (prepared.Ended found)
+      → Gains faults B (faults_in faults before) way.txn.0 (known own before) (known own' now) (AbortsFor way.txn.0 now first IsWriteFault found)
+      → IsPreparedAlone faults (on_its_way asking said way) meaning before now (prepared.Ended found)
   broken-alone (Change info effect) first found gives gains =
       ended-alone (Change info effect) (giving way.txn.0 info.table gives.0 ∷ []) IsWriteFault found
       (id-before (entries_of before.house) asking way.txn.0 way.place said info effect gives.0 gives.1 under) write-plain
-      (subst (λ (f : List Entry). Gains faults B (faults_in faults before) way.txn.0 own own' before now (AbortsFor way.txn.0 now f IsWriteFault found)) gives.2 gains)
+      (subst (λ (f : List Entry). Gains faults B (faults_in faults before) way.txn.0 (known own before) (known own' now)
+      (AbortsFor way.txn.0 now f IsWriteFault found)) gives.2 gains)
   broken-alone (Listing names rows) first found gives gains = absurd gives
   broken-alone (Make shape) first found gives gains = absurd gives
   broken-alone (Unmake table) first found gives gains = absurd gives
@@ -203,11 +217,11 @@ module _ {D : Type 0} (told : D → Option Store) (faults : D → ℕ) (B : List
     same-book is = gained.book ∙ ap (λ (xs : List Entry). entries_of before.house ++ xs) is ∙ append-nil (entries_of before.house)
 
     idle-alone : (meaning : Meaning) (text : List ℕ) → TouchesAreMeant [] (Some meaning) → text ≡ committed_text (Some meaning) [] → added ≡ [] → IsReadyAs ready idle_end text
-        → IsPreparedAlone faults asking said way meaning before now (prepared.Ready ready)
+        → IsPreparedAlone faults (on_its_way asking said way) meaning before now (prepared.Ready ready)
     idle-alone meaning text are says is so = idle-ready faults asking said way before now under ready meaning text are says (same-book is) so.0 so.1
 
     ready-alone : (meaning : Meaning) → CanEnd (entries_of before.house) meaning → PreparesTo way.txn.0 meaning ready added
-        → IsPreparedAlone faults asking said way meaning before now (prepared.Ready ready)
+        → IsPreparedAlone faults (on_its_way asking said way) meaning before now (prepared.Ready ready)
     ready-alone (Listing names rows) can so = idle-alone (Listing names rows) (listing names rows) refl refl so.0 so.1
     ready-alone Plain can so = idle-alone Plain ok_line refl refl so.0 so.1
     ready-alone (Make shape) can so =
@@ -237,12 +251,12 @@ module _ {D : Type 0} (told : D → Option Store) (faults : D → ℕ) (B : List
       low = faults_in faults before
 
       said_as : (first : List Entry) (Causes : Cause → Type 0) → AbortsFor way.txn.0 now first Causes found gains.added
-          → Gains faults B low way.txn.0 own own' before now (AbortsFor way.txn.0 now first Causes found)
+          → Gains faults B low way.txn.0 (known own before) (known own' now) (AbortsFor way.txn.0 now first Causes found)
       said_as first Causes is = record { added = gains.added; adds = gains.adds; of_it = gains.of_it; counts = gains.counts; is = is; running = gains.running }
 
       by : AbortsFor way.txn.0 now [] (EndsEarlyFor meaning) found gains.added
           ⊎ ((first : List Entry) × GivesId way.txn.0 meaning first × AbortsFor way.txn.0 now first IsWriteFault found gains.added)
-          → IsPreparedAlone faults asking said way meaning before now (prepared.Ended found)
+          → IsPreparedAlone faults (on_its_way asking said way) meaning before now (prepared.Ended found)
       by (inl early) =
           ended-alone told faults B none asking said way own own' before now under kept meaning [] (EndsEarlyFor meaning) found
           (nothing-before (entries_of before.house) asking way.txn.0 way.place said meaning under) (early-plain meaning) (said_as [] (EndsEarlyFor meaning) early)

@@ -14,8 +14,8 @@ use Rattle.hv_stands.specs.Laws.{changes_in}
 use Rattle.hv_stands.specs.Running.{Asking, meant, IsUnderWay}
 use Rattle.hv_stands.specs.Statements.{AllFitting}
 use Rattle.hv_stands.proofs.Begun.{ids-given}
-use Rattle.hv_steps.specs.hv_acts.specs.hv_telling.specs.hv_house.specs.House.{entries_of}
-use Rattle.hv_steps.specs.hv_acts.specs.declared.told.ToldHouse.{ToldHouse}
+use Rattle.hv_steps.specs.hv_table_reader.specs.hv_acts.specs.hv_telling.specs.hv_house.specs.House.{entries_of}
+use Rattle.hv_steps.specs.hv_table_reader.specs.hv_acts.specs.declared.told.ToldHouse.{ToldHouse}
 use Rattle.hv_steps.specs.declared.ready.Way.{Way}
 use Rattle.hv_steps.specs.declared.ready.Ready.{Ready}
 use Rattle.hv_shelf.specs.declared.place.Place.{Place}
@@ -23,7 +23,7 @@ use Rattle.hv_steps.specs.declared.ready.End.{End}
 use Rattle.hv_steps.specs.declared.reply.Prepared.TheVariants as prepared
 use Rattle.hv_steps.specs.Ending.{EndCanBeNoted, EndIsTrue, IsReadyToEnd, CanChange, giving, idle_end}
 use Rattle.hv_steps.specs.Phases.{IsChangeReady}
-use Rattle.hv_session.specs.Alone.{IsPreparedAlone}
+use Rattle.hv_session.specs.Alone.{IsPreparedAlone, on_its_way}
 use Rattle.hv_steps.proofs.Shorts.{short_idle, short_change}
 use Rattle.hv_steps.proofs.Standing.{means-still, change-stays}
 use Rattle.hv_steps.proofs.Touched.{nothing-touched, well-touched}
@@ -50,7 +50,7 @@ module _ {D : Type 0} (faults : D → ℕ) (asking : Asking) (said : Stmt) (way 
         (subst (λ (e : End). EndIsTrue (Some meaning) [] e ready.text) (sym end_is)
         (subst (EndIsTrue (Some meaning) [] last) (sym text_is) truly))
 
-    pub plain-ready : IsPreparedAlone faults asking said way meaning before now (prepared.Ready ready)
+    pub plain-ready : IsPreparedAlone faults (on_its_way asking said way) meaning before now (prepared.Ready ready)
     plain-ready = record {
       prepares = record {
         added = [];
@@ -71,7 +71,8 @@ module _ {D : Type 0} (faults : D → ℕ) (asking : Asking) (said : Stmt) (way 
 
   -- without a touch
   pub idle-ready : (meaning : Meaning) (text : List ℕ) → TouchesAreMeant [] (Some meaning) → text ≡ committed_text (Some meaning) []
-      → entries_of now.house ≡ old_book → ready.end ≡ idle_end → ready.text ≡ text → IsPreparedAlone faults asking said way meaning before now (prepared.Ready ready)
+      → entries_of now.house ≡ old_book → ready.end ≡ idle_end → ready.text ≡ text
+      → IsPreparedAlone faults (on_its_way asking said way) meaning before now (prepared.Ready ready)
   idle-ready meaning text are says same end_is text_is =
       plain-ready meaning idle_end text same end_is text_is (record { small = short_idle way.txn.0; touched = nothing-touched; change = inl refl })
       (record { meant = are; reply = says; files_are = inl (refl, refl) })
@@ -129,7 +130,7 @@ module _ {D : Type 0} (faults : D → ℕ) (asking : Asking) (said : Stmt) (way 
             });
           }))
 
-      pub change-ready : IsPreparedAlone faults asking said way (Change info effect) before now (prepared.Ready ready)
+      pub change-ready : IsPreparedAlone faults (on_its_way asking said way) (Change info effect) before now (prepared.Ready ready)
       change-ready = record {
         prepares = record {
           added = noted ∷ [];

@@ -6,16 +6,16 @@ use Rattle.hv_history.specs.State.{state_of, nothing_yet}
 use Rattle.hv_history.specs.Legal.{AllFit, profile}
 use Rattle.hv_trail.specs.declared.trail.TrailItem.{TrailItem}
 use Rattle.hv_trail.specs.Trail.{book_of}
-use Rattle.hv_actor.specs.Acting.{IsAlone}
-use Rattle.hv_steps.specs.hv_acts.specs.hv_telling.specs.hv_house.specs.declared.fault.HouseFault.{HouseFault}
-use Rattle.hv_steps.specs.hv_acts.specs.hv_telling.specs.hv_house.specs.declared.fault.HouseFault.TheVariants as fault
-use Rattle.hv_steps.specs.hv_acts.specs.hv_telling.specs.hv_house.specs.Faults.{EndsRun, HasRisen}
-use Rattle.hv_steps.specs.hv_acts.specs.hv_telling.specs.hv_house.specs.House.{entries_of, Leaves}
-use Rattle.hv_steps.specs.hv_acts.specs.hv_telling.specs.Telling.{IsWhole}
-use Rattle.hv_steps.specs.hv_acts.specs.hv_telling.proofs.Told.{told-stays}
-use Rattle.hv_steps.specs.hv_acts.specs.declared.told.ToldHouse.{ToldHouse}
-use Rattle.hv_steps.specs.hv_acts.specs.Told.{IsWholeOrClosed, book_in}
-use Rattle.hv_steps.specs.hv_acts.proofs.Steps.{book-is}
+use Rattle.hv_actor.specs.Acting.{IsAlone, among, known}
+use Rattle.hv_steps.specs.hv_table_reader.specs.hv_acts.specs.hv_telling.specs.hv_house.specs.declared.fault.HouseFault.{HouseFault}
+use Rattle.hv_steps.specs.hv_table_reader.specs.hv_acts.specs.hv_telling.specs.hv_house.specs.declared.fault.HouseFault.TheVariants as fault
+use Rattle.hv_steps.specs.hv_table_reader.specs.hv_acts.specs.hv_telling.specs.hv_house.specs.Faults.{EndsRun, HasRisen}
+use Rattle.hv_steps.specs.hv_table_reader.specs.hv_acts.specs.hv_telling.specs.hv_house.specs.House.{entries_of, Leaves}
+use Rattle.hv_steps.specs.hv_table_reader.specs.hv_acts.specs.hv_telling.specs.Telling.{IsWhole}
+use Rattle.hv_steps.specs.hv_table_reader.specs.hv_acts.specs.hv_telling.proofs.Told.{told-stays}
+use Rattle.hv_steps.specs.hv_table_reader.specs.hv_acts.specs.declared.told.ToldHouse.{ToldHouse}
+use Rattle.hv_steps.specs.hv_table_reader.specs.hv_acts.specs.Told.{IsWholeOrClosed, book_in}
+use Rattle.hv_steps.specs.hv_table_reader.specs.hv_acts.proofs.Steps.{book-is}
 use Rattle.hv_steps.specs.Ending.{HasStopped}
 use Rattle.hv_steps.specs.Going.{faults_in, IsOpenHouse, IsShutHouse, IsShutBetween, IsShutNow, HaltsFor, Halts, Goes}
 use Rattle.hv_session.specs.Alone.{AddsNothing, HasGained, StopsAlone, OpensAlone}
@@ -30,7 +30,8 @@ never-between {D = D} meanwhile alone shut =
 
 module _ {D : Type 0} (told : D → Option Store) (faults : D → ℕ) (B : List TrailItem → Type 0) (none : AddsNothing B)
     (meanwhile : ToldHouse D → ToldHouse D → Type 0) (alone : IsAlone meanwhile) where
-  stop-shut : (txn : ℕ) (own own' : List ℕ) (before now : ToldHouse D) → Halts told faults B meanwhile txn own own' before now fault.Store
+  stop-shut : (txn : ℕ) (own own' : List ℕ) (before now : ToldHouse D) → Halts (among told faults B meanwhile) txn (known own before) (known own' now)
+      fault.Store
       → IsShutNow told txn now → HasStopped told txn fault.Store before.house now.house
   stop-shut txn own own' before now halts shut =
       let gained : HasGained faults before now halts.added = adds-alone faults B none own own' before now halts.added halts.adds in
@@ -40,33 +41,35 @@ module _ {D : Type 0} (told : D → Option Store) (faults : D → ℕ) (B : List
         added = halts.added;
         book = gained.book;
         of_it = halts.of_it;
-        legal = legal-behind (entries_of before.house) halts.added (entries_of now.house) gained.book
+        legal = legal-behind txn (entries_of before.house) halts.added (entries_of now.house) gained.book
             (subst (AllFit profile nothing_yet) (sym book) (shut.kept.whole shut.was).ready.fit) halts.unended;
         unended = halts.unended;
         further = shut.cut.further;
         further_of_it = shut.cut.of_it;
+        unopened = shut.cut.unopened;
         few = shut.cut.few;
         fit = subst (λ (b : List Entry). AllFit profile (state_of b) shut.cut.further) there shut.cut.fit;
         leaves = subst (Leaves fault.Store shut.cut.further (told now.house.shelf)) there shut.cut.leaves;
       }
 
-  stop-by : (txn : ℕ) (own own' : List ℕ) (before now : ToldHouse D) → Halts told faults B meanwhile txn own own' before now fault.Store
+  stop-by : (txn : ℕ) (own own' : List ℕ) (before now : ToldHouse D) → Halts (among told faults B meanwhile) txn (known own before) (known own' now) fault.Store
       → IsShutBetween meanwhile ⊎ IsShutNow told txn now → HasStopped told txn fault.Store before.house now.house
   stop-by txn own own' before now halts (inl between) = absurd (never-between meanwhile alone between)
   stop-by txn own own' before now halts (inr shut) = stop-shut txn own own' before now halts shut
 
   stop-open : (txn : ℕ) (own own' : List ℕ) (before now : ToldHouse D) → IsWhole told now.house
-      → Halts told faults B meanwhile txn own own' before now fault.NoMemory → HasStopped told txn fault.NoMemory before.house now.house
+      → Halts (among told faults B meanwhile) txn (known own before) (known own' now) fault.NoMemory → HasStopped told txn fault.NoMemory before.house now.house
   stop-open txn own own' before now whole halts =
       let gained : HasGained faults before now halts.added = adds-alone faults B none own own' before now halts.added halts.adds in
       record {
         added = halts.added;
         book = gained.book;
         of_it = halts.of_it;
-        legal = legal-behind (entries_of before.house) halts.added (entries_of now.house) gained.book whole.ready.fit halts.unended;
+        legal = legal-behind txn (entries_of before.house) halts.added (entries_of now.house) gained.book whole.ready.fit halts.unended;
         unended = halts.unended;
         further = [];
         further_of_it = tt;
+        unopened = tt;
         few = omega arith;
         fit = tt;
         leaves = whole.ready.kept.reads;
@@ -92,7 +95,7 @@ module _ {D : Type 0} (told : D → Option Store) (faults : D → ℕ) (B : List
   shut-there txn now (inr shut) = shut.is
 
   risen-alone : (txn : ℕ) (own own' : List ℕ) (before now : ToldHouse D) (why : HouseFault) → IsOpenHouse before
-      → Halts told faults B meanwhile txn own own' before now why → HasRisen (faults_in faults before) (faults_in faults now) why
+      → Halts (among told faults B meanwhile) txn (known own before) (known own' now) why → HasRisen (faults_in faults before) (faults_in faults now) why
   risen-alone txn own own' before now fault.Store open_ halts = halts.adds.later.rises open_ (shut-there txn now halts.halts)
   risen-alone txn own own' before now fault.NoMemory open_ halts = tt
   risen-alone txn own own' before now (fault.Failed count) open_ halts = absurd halts.halts
@@ -100,7 +103,8 @@ module _ {D : Type 0} (told : D → Option Store) (faults : D → ℕ) (B : List
   -- a part over an actor goes on or stops as one over a house alone
   pub parts-alone : (T : Type 0) (txn : ℕ) (own own' : List ℕ) (before now : ToldHouse D) (Is : T → List Entry → Type 0) (result : Result T HouseFault)
       → IsOpenHouse before → IsWholeOrClosed told now.house
-      → Goes told faults B meanwhile (faults_in faults before) txn own own' before now Is result → IsPart told faults txn before.house now.house result
+      → Goes (among told faults B meanwhile) (faults_in faults before) txn (known own before) (known own' now) Is result
+      → IsPart told faults txn before.house now.house result
   parts-alone T txn own own' before now Is (Ok x) open_ kept goes =
       let gained : HasGained faults before now goes.done.added = adds-alone faults B none own own' before now goes.done.added goes.done.adds in
       record {

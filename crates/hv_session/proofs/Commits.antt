@@ -19,31 +19,31 @@ use Rattle.hv_history.specs.State.{state_of, numbered}
 use Rattle.hv_history.specs.Legal.{CommitFits, CreateFits, DropFits, IsRunning}
 use Rattle.hv_history.specs.Lasting.{IsFront}
 use Rattle.hv_history.specs.Answers.{cause_text, conflict_text, committed_text, ok_line, name_of, name_at}
-use Rattle.hv_stands.specs.Running.{snapshot_at}
+use Rattle.hv_stands.specs.Running.{IsOf, snapshot_at}
 use Rattle.hv_stands.specs.Statements.{AllFitting}
 use Rattle.hv_stands.proofs.Fitting.{fronts-fit}
 use Rattle.hv_stands.proofs.SeeingEnough.{changed-table-stood}
 use Rattle.hv_trail.specs.declared.trail.TrailItem.{TrailItem}
 use Rattle.hv_trail.specs.Trail.{book_of, state_at}
 use Rattle.hv_trail.specs.Steps.{Note, MayEnd}
-use Rattle.hv_actor.specs.Acting.{IsLater, AreRows}
-use Rattle.hv_steps.specs.hv_acts.specs.hv_telling.specs.hv_house.specs.declared.fault.HouseFault.{HouseFault}
-use Rattle.hv_steps.specs.hv_acts.specs.hv_telling.specs.hv_house.specs.declared.fault.HouseFault.TheVariants as fault
-use Rattle.hv_steps.specs.hv_acts.specs.declared.told.ToldHouse.{ToldHouse}
-use Rattle.hv_steps.specs.hv_acts.specs.declared.aborted.Aborted.{Aborted}
-use Rattle.hv_steps.specs.hv_acts.specs.declared.committing.Committed.{Committed}
-use Rattle.hv_steps.specs.hv_acts.specs.declared.committing.Committed.TheVariants as committed
-use Rattle.hv_steps.specs.hv_acts.specs.declared.fault.ActFault.{ActFault}
-use Rattle.hv_steps.specs.hv_acts.specs.declared.fault.ActFault.TheVariants as act
-use Rattle.hv_steps.specs.hv_acts.specs.declared.making.Made.{Made}
-use Rattle.hv_steps.specs.hv_acts.specs.Told.{IsWholeOrClosed, seen_in, trail_in, book_in}
-use Rattle.hv_steps.specs.hv_acts.specs.Answers.{NoTest, FilesTest, Answers, AnswerLeaves, EntryFits, answer_call, answer_outcome, next_table}
-use Rattle.hv_steps.specs.hv_acts.specs.Committing.{call_to_commit, adds_commit, CommitAnswers, HasConflicted}
-use Rattle.hv_steps.specs.hv_acts.specs.Making.{MakeFits, IsMadeAt}
-use Rattle.hv_steps.specs.hv_acts.specs.Dropping.{CanDrop, IsDroppedAt}
-use Rattle.hv_steps.specs.hv_acts.specs.Meant.{HasMeant, IsCommitDue}
-use Rattle.hv_steps.specs.hv_acts.proofs.Steps.{book-is}
-use Rattle.hv_steps.specs.hv_acts.proofs.Meant.{on-way}
+use Rattle.hv_actor.specs.Acting.{IsLater, AreRows, among, known, Held}
+use Rattle.hv_steps.specs.hv_table_reader.specs.hv_acts.specs.hv_telling.specs.hv_house.specs.declared.fault.HouseFault.{HouseFault}
+use Rattle.hv_steps.specs.hv_table_reader.specs.hv_acts.specs.hv_telling.specs.hv_house.specs.declared.fault.HouseFault.TheVariants as fault
+use Rattle.hv_steps.specs.hv_table_reader.specs.hv_acts.specs.declared.told.ToldHouse.{ToldHouse}
+use Rattle.hv_steps.specs.hv_table_reader.specs.hv_acts.specs.declared.aborted.Aborted.{Aborted}
+use Rattle.hv_steps.specs.hv_table_reader.specs.hv_acts.specs.declared.committing.Committed.{Committed}
+use Rattle.hv_steps.specs.hv_table_reader.specs.hv_acts.specs.declared.committing.Committed.TheVariants as committed
+use Rattle.hv_steps.specs.hv_table_reader.specs.hv_acts.specs.declared.fault.ActFault.{ActFault}
+use Rattle.hv_steps.specs.hv_table_reader.specs.hv_acts.specs.declared.fault.ActFault.TheVariants as act
+use Rattle.hv_steps.specs.hv_table_reader.specs.hv_acts.specs.declared.making.Made.{Made}
+use Rattle.hv_steps.specs.hv_table_reader.specs.hv_acts.specs.Told.{IsWholeOrClosed, seen_in, trail_in, book_in, told_sight}
+use Rattle.hv_steps.specs.hv_table_reader.specs.hv_acts.specs.Answers.{NoTest, FilesTest, Answers, AnswerLeaves, EntryFits, answer_call, answer_outcome, next_table}
+use Rattle.hv_steps.specs.hv_table_reader.specs.hv_acts.specs.Committing.{call_to_commit, adds_commit, CommitAnswers, HasConflicted}
+use Rattle.hv_steps.specs.hv_table_reader.specs.hv_acts.specs.Making.{MakeFits, IsMadeAt}
+use Rattle.hv_steps.specs.hv_table_reader.specs.hv_acts.specs.Dropping.{CanDrop, IsDroppedAt}
+use Rattle.hv_steps.specs.hv_table_reader.specs.hv_acts.specs.Meant.{HasMeant, IsCommitDue}
+use Rattle.hv_steps.specs.hv_table_reader.specs.hv_acts.proofs.Steps.{book-is}
+use Rattle.hv_steps.specs.hv_table_reader.specs.hv_acts.proofs.Meant.{on-way}
 use Rattle.hv_steps.specs.Ending.{KeepsCount, committing, creating, dropping, aborting, HasReplied}
 use Rattle.hv_steps.specs.declared.ready.Ready.{Ready}
 use Rattle.hv_steps.specs.declared.ready.End.TheVariants as last
@@ -55,7 +55,7 @@ use Rattle.hv_session.specs.Ends.{commit_adds, IsCommitEnd, IsCommitAnswered, co
 use Rattle.hv_steps.specs.Going.{faults_in, IsOpenHouse, AddsOwn, Goes}
 use Rattle.hv_steps.specs.Leaving.{EndsAct}
 use Rattle.hv_steps.specs.Phases.{IsDueSo, NoCause, AbortsFor, Concludes, AnswersTruly}
-use Rattle.hv_steps.proofs.Joining.{front-more, HeldBy, NamesEnd, why-names, goes-on, held-front}
+use Rattle.hv_steps.proofs.Joining.{front-more, NamesEnd, why-names, goes-on, held-front}
 use Rattle.hv_steps.proofs.Ends.{open-here, replied-now, ended-now, create-replies, drop-replies}
 
 -- ---- what it means
@@ -161,7 +161,7 @@ module _ {D : Type 0} (told : D → Option Store) (faults : D → ℕ) (meanwhil
     (txn : TxnId) (wrote : List Touch) (name : List ℕ) (places : List Place) where
   abbrev pub HeldCommit : Result Committed ActFault → Type 0
   HeldCommit result =
-      HeldBy told faults meanwhile before now (λ seen. call_to_commit txn wrote result) (answer_outcome result)
+      Held (told_sight told faults) meanwhile before now (λ seen. call_to_commit txn wrote result) (answer_outcome result)
       (λ house after. CommitAnswers house.trail txn wrote name places result × AnswerLeaves told faults txn.0 house after result)
 
   pub commit-ended : (result : Result Committed ActFault) → HeldCommit result → IfOk result (IsCommitEnd now txn.0 name)
@@ -195,7 +195,7 @@ module _ {D : Type 0} (told : D → Option Store) (faults : D → ℕ) (meanwhil
 module _ {D : Type 0} (told : D → Option Store) (faults : D → ℕ) (meanwhile : ToldHouse D → ToldHouse D → Type 0) (before now : ToldHouse D) (txn : TxnId) where
   abbrev pub HeldMake : Result Made ActFault → Type 0
   HeldMake result =
-      HeldBy told faults meanwhile before now (λ seen. answer_call (Note (entry.Create txn (next_table seen.trail))) result) (answer_outcome result)
+      Held (told_sight told faults) meanwhile before now (λ seen. answer_call (Note (entry.Create txn (next_table seen.trail))) result) (answer_outcome result)
       (λ house after. Answers NoTest house.trail txn (MakeFits house.trail txn) (IsMadeAt house.trail) result × AnswerLeaves told faults txn.0 house after result)
 
   pub make-replied : (result : Result Made ActFault) → HeldMake result
@@ -214,7 +214,7 @@ module _ {D : Type 0} (told : D → Option Store) (faults : D → ℕ) (meanwhil
     (table : TableId) where
   abbrev pub HeldDrop : Result ℕ ActFault → Type 0
   HeldDrop result =
-      HeldBy told faults meanwhile before now (λ seen. answer_call (Note (entry.Drop txn table)) result) (answer_outcome result)
+      Held (told_sight told faults) meanwhile before now (λ seen. answer_call (Note (entry.Drop txn table)) result) (answer_outcome result)
       (λ house after. Answers NoTest house.trail txn (CanDrop house.trail txn table) (IsDroppedAt house.trail) result × AnswerLeaves told faults txn.0 house after result)
 
   pub drop-replied : (result : Result ℕ ActFault) → HeldDrop result → IfOk result (λ (at : ℕ). HasReplied (book_in now) txn.0 ok_line false (Some at))
@@ -231,14 +231,14 @@ module _ {D : Type 0} (told : D → Option Store) (faults : D → ℕ) (meanwhil
 pub lacks-concludes : {D : Type 0} (txn : ℕ) (now : ToldHouse D) (ready : Ready) (found : Done) (added : List Entry) → AbortsFor txn now [] NoCause found added
     → Concludes txn now ready found added
 lacks-concludes txn now ready (done.Replied reply) added is = (is.0, is.1, inr (inr is.2), is.3)
-lacks-concludes txn now ready (done.Gone at) added is = is
+lacks-concludes txn now ready (done.Gone reply) added is = is
 
 -- and its reply is the answer
 pub lacks-answers : {D : Type 0} (told : D → Option Store) (faults : D → ℕ) (B : List TrailItem → Type 0) (meanwhile : ToldHouse D → ToldHouse D → Type 0) (low txn : ℕ)
     (own own' : List ℕ) (before now : ToldHouse D) (Causes : Cause → Type 0) (result : Result Done HouseFault)
-    → Goes told faults B meanwhile low txn own own' before now (AbortsFor txn now [] Causes) result → IfOk result (AnswersTruly txn now)
+    → Goes (among told faults B meanwhile) low txn (known own before) (known own' now) (AbortsFor txn now [] Causes) result → IfOk result (AnswersTruly txn now)
 lacks-answers told faults B meanwhile low txn own own' before now Causes (Err why) goes = tt
-lacks-answers told faults B meanwhile low txn own own' before now Causes (Ok (done.Gone at)) goes = tt
+lacks-answers told faults B meanwhile low txn own own' before now Causes (Ok (done.Gone reply)) goes = goes.done.is.1
 lacks-answers told faults B meanwhile low txn own own' before now Causes (Ok (done.Replied reply)) goes = goes.done.is.2.answered
 
 pub commit-answers : {D : Type 0} (txn : ℕ) (now : ToldHouse D) (text : List ℕ) (found : Committed) (reply : Done) → reply ≡ committed_reply text found
@@ -255,16 +255,18 @@ create-answers txn now text at reply e says answered =
 module _ {D : Type 0} (told : D → Option Store) (faults : D → ℕ) (B : List TrailItem → Type 0) (rows : AreRows B)
     (meanwhile : ToldHouse D → ToldHouse D → Type 0) (low txn : ℕ) (own own' : List ℕ) (before now : ToldHouse D) where
   -- it was refused by an act that added nothing, and aborted
-  pub concludes-without : (own'' : List ℕ) (after : ToldHouse D) (ready : Ready) (result : Result Done HouseFault) → AddsOwn faults B own own' before now []
-      → Goes told faults B meanwhile low txn own' own'' now after (AbortsFor txn after [] NoCause) result
-      → Goes told faults B meanwhile low txn own own'' before after (Concludes txn after ready) result
+  pub concludes-without : (own'' : List ℕ) (after : ToldHouse D) (ready : Ready) (result : Result Done HouseFault)
+      → AddsOwn faults B txn (known own before) (known own' now) []
+      → Goes (among told faults B meanwhile) low txn (known own' now) (known own'' after) (AbortsFor txn after [] NoCause) result
+      → Goes (among told faults B meanwhile) low txn (known own before) (known own'' after) (Concludes txn after ready) result
   concludes-without own'' after ready result adds goes =
       goes-on faults B rows told meanwhile low low txn own own' own'' before now after (AbortsFor txn after [] NoCause) (Concludes txn after ready) result (omega arith) adds
       (λ found more is. lacks-concludes txn after ready found more is) goes
 
   commit-replied : (wrote : List Touch) (name : List ℕ) (put : List Place) (text : List ℕ) (found : Committed)
-      → AddsOwn faults B own own' before now (commit_adds txn wrote (Ok found)) → IsOpenHouse now → IsCommitEnd now txn name found
-      → Goes told faults B meanwhile low txn own own' before now (Concludes txn now (record { end = last.Commit wrote name put; text = text })) (Ok (committed_reply text found))
+      → AddsOwn faults B txn (known own before) (known own' now) (commit_adds txn wrote (Ok found)) → IsOpenHouse now → IsCommitEnd now txn name found
+      → Goes (among told faults B meanwhile) low txn (known own before) (known own' now)
+      (Concludes txn now (record { end = last.Commit wrote name put; text = text })) (Ok (committed_reply text found))
   commit-replied wrote name put text (committed.At place) adds running ended = record {
     done = record {
       added = committing txn wrote ∷ [];
@@ -282,7 +284,7 @@ module _ {D : Type 0} (told : D → Option Store) (faults : D → ℕ) (B : List
         done = record {
           added = aborting txn aborted.cause ∷ [];
           adds = adds;
-          of_it = (refl, tt);
+          of_it = (subst (λ (why : Cause). IsOf txn (aborting txn why)) (sym met.cause_is) refl, tt);
           counts = (subst (λ (why : Cause). KeepsCount low (faults_in faults now) (aborting txn why)) (sym met.cause_is) tt, tt);
           is = (
             aborting txn aborted.cause,
@@ -307,17 +309,22 @@ module _ {D : Type 0} (told : D → Option Store) (faults : D → ℕ) (B : List
       }
 
   pub concludes-commit : (wrote : List Touch) (name : List ℕ) (put : List Place) (text : List ℕ) (found : Committed) (reply : Done) → reply ≡ committed_reply text found
-      → AddsOwn faults B own own' before now (commit_adds txn wrote (Ok found)) → IsOpenHouse now → IsCommitEnd now txn name found
-      → Goes told faults B meanwhile low txn own own' before now (Concludes txn now (record { end = last.Commit wrote name put; text = text })) (Ok reply)
+      → AddsOwn faults B txn (known own before) (known own' now) (commit_adds txn wrote (Ok found)) → IsOpenHouse now → IsCommitEnd now txn name found
+      → Goes (among told faults B meanwhile) low txn (known own before) (known own' now)
+      (Concludes txn now (record { end = last.Commit wrote name put; text = text })) (Ok reply)
   concludes-commit wrote name put text found reply e adds running ended =
-      subst (λ (d : Done). Goes told faults B meanwhile low txn own own' before now (Concludes txn now (record { end = last.Commit wrote name put; text = text })) (Ok d))
+      subst (λ (d : Done). Goes (among told faults B meanwhile) low txn (known own before) (known own' now)
+      (Concludes txn now (record { end = last.Commit wrote name put; text = text })) (Ok d))
       (sym e) (commit-replied wrote name put text found adds running ended)
 
   pub concludes-create : (text : List ℕ) (made : Made) (reply : Done) → reply ≡ done.Replied (record { text = text; refused = false; ended = Some made.at })
-      → AddsOwn faults B own own' before now (create_adds txn made ∷ []) → IsOpenHouse now → HasReplied (book_in now) txn ok_line false (Some made.at)
-      → Goes told faults B meanwhile low txn own own' before now (Concludes txn now (record { end = last.Create; text = text })) (Ok reply)
+      → AddsOwn faults B txn (known own before) (known own' now) (create_adds txn made ∷ []) → IsOpenHouse now
+      → HasReplied (book_in now) txn ok_line false (Some made.at)
+      → Goes (among told faults B meanwhile) low txn (known own before) (known own' now) (Concludes txn now (record { end = last.Create; text = text }))
+      (Ok reply)
   concludes-create text made reply e adds running answered =
-      subst (λ (d : Done). Goes told faults B meanwhile low txn own own' before now (Concludes txn now (record { end = last.Create; text = text })) (Ok d)) (sym e)
+      subst (λ (d : Done). Goes (among told faults B meanwhile) low txn (known own before) (known own' now)
+      (Concludes txn now (record { end = last.Create; text = text })) (Ok d)) (sym e)
       (record {
         done = record {
           added = create_adds txn made ∷ [];
@@ -331,10 +338,13 @@ module _ {D : Type 0} (told : D → Option Store) (faults : D → ℕ) (B : List
       })
 
   pub concludes-drop : (text : List ℕ) (table : TableId) (at : ℕ) (reply : Done) → reply ≡ done.Replied (record { text = text; refused = false; ended = Some at })
-      → AddsOwn faults B own own' before now (drop_adds txn table at ∷ []) → IsOpenHouse now → HasReplied (book_in now) txn ok_line false (Some at)
-      → Goes told faults B meanwhile low txn own own' before now (Concludes txn now (record { end = last.Drop table; text = text })) (Ok reply)
+      → AddsOwn faults B txn (known own before) (known own' now) (drop_adds txn table at ∷ []) → IsOpenHouse now
+      → HasReplied (book_in now) txn ok_line false (Some at)
+      → Goes (among told faults B meanwhile) low txn (known own before) (known own' now) (Concludes txn now (record { end = last.Drop table; text = text }))
+      (Ok reply)
   concludes-drop text table at reply e adds running answered =
-      subst (λ (d : Done). Goes told faults B meanwhile low txn own own' before now (Concludes txn now (record { end = last.Drop table; text = text })) (Ok d)) (sym e)
+      subst (λ (d : Done). Goes (among told faults B meanwhile) low txn (known own before) (known own' now)
+      (Concludes txn now (record { end = last.Drop table; text = text })) (Ok d)) (sym e)
       (record {
         done = record {
           added = drop_adds txn table at ∷ [];

@@ -19,10 +19,11 @@ use Rattle.hv_stands.specs.Running.{Asking, meant}
 use Rattle.hv_trail.specs.Trail.{book_of}
 use Rattle.hv_trail.proofs.LastingLaws.{goes-on-front}
 use Rattle.hv_actor.specs.Acting.{IsLater}
-use Rattle.hv_steps.specs.hv_acts.specs.hv_telling.specs.Telling.{IsTold, IsToldHouse}
-use Rattle.hv_steps.specs.hv_acts.specs.declared.told.ToldHouse.{ToldHouse}
-use Rattle.hv_steps.specs.hv_acts.specs.Told.{seen_in, trail_in, book_in}
-use Rattle.hv_steps.specs.hv_acts.proofs.Lasting.{put-lasts, make-lasts, drop-lasts}
+use Rattle.hv_steps.specs.hv_table_reader.specs.hv_acts.specs.hv_telling.specs.Telling.{IsTold, IsToldHouse}
+use Rattle.hv_steps.specs.hv_table_reader.specs.hv_acts.specs.declared.told.ToldHouse.{ToldHouse}
+use Rattle.hv_steps.specs.hv_table_reader.specs.hv_acts.specs.Told.{seen_in, trail_in, book_in}
+use Rattle.hv_steps.specs.hv_table_reader.specs.hv_acts.proofs.Lasting.{put-lasts, make-lasts, drop-lasts}
+use Rattle.hv_steps.specs.hv_table_reader.specs.hv_acts.proofs.Passed.{asked-lasts}
 use Rattle.hv_steps.specs.Ending.{CanChange, CanEnd}
 use Rattle.hv_steps.specs.declared.ready.Way.{Way}
 use Rattle.hv_steps.specs.declared.ready.End.{End}
@@ -33,7 +34,7 @@ use Rattle.hv_session.specs.declared.paused.Paused.{Paused}
 use Rattle.hv_steps.specs.Going.{WasOnWay}
 use Rattle.hv_steps.specs.Phases.{ComesTo, IsDueSo, CanConclude}
 use Rattle.hv_session.specs.Doing.{CanGoOn, CanFinish}
-use Rattle.hv_steps.proofs.Joining.{book-front, way-lasts, opened-lasts}
+use Rattle.hv_steps.proofs.Joining.{book-front, front-more, way-lasts, opened-lasts}
 use Rattle.hv_steps.proofs.Ids.{meant-lasts}
 
 module _ {D : Type 0} (told : D → Option Store) (before now : ToldHouse D) (front : IsFront (trail_in before) (trail_in now))
@@ -86,9 +87,14 @@ module _ {D : Type 0} (told : D → Option Store) (before now : ToldHouse D) (fr
   due-lasts txn wrote name places text (inl is) = inl (
     record {
       means = is.0.means;
-      meant_it = meant-lasts (trail_in before) (trail_in now) front txn [] is.0.means is.0.meant_it;
+      meant_it = record {
+        then_ = is.0.meant_it.then_;
+        front = front-more is.0.meant_it.then_ (trail_in before) (trail_in now) is.0.meant_it.front front;
+        was = is.0.meant_it.was;
+      };
       touches = is.0.touches;
       none = is.0.none;
+      asked = asked-lasts (trail_in before) (trail_in now) front txn is.0.meant_it.was.place is.0.meant_it.was.said is.0.means is.0.asked;
     },
     is.1,
   )

@@ -1,3 +1,4 @@
+pub mod AloneAsks
 pub mod AloneBegins
 pub mod AloneBooks
 pub mod AloneCarries
@@ -6,9 +7,11 @@ pub mod AloneEnds
 pub mod AloneFinishes
 pub mod AloneHolds
 pub mod AlonePrepares
+pub mod AloneReadied
 pub mod AloneReady
 pub mod AloneStops
 pub mod Commits
+pub mod Finishings
 pub mod Lastings
 pub mod Openings
 pub mod Orders

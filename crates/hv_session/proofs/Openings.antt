@@ -1,6 +1,7 @@
 -- What the acts leave by which a statement is opened, and started or ended before its Start.
 use Rattle.std.proofs.Common.{◌≡◌, ◌⊎◌, inl, inr, ℕ, ◌+◌, ◌≤◌, Bool, true, false, ◌||◌, Option, Some, None, List, [], ◌∷◌, ◌++◌, length, map, refl, sym, ap, ◌∙◌, subst, append-nil, append_assoc, length-append, arith, Ok, Err, Result}
 use Rattle.std.specs.Prelude.{IsSomeAnd, IfOk, IfErr}
+use Rattle.std.specs.List.{AllByRecursion}
 use Rattle.hv_base.specs.declared.ids.Limits.{Limits}
 use Rattle.hv_base.specs.declared.ids.TxnId.{TxnId}
 use Rattle.hv_shelf.specs.Disk.{Store}
@@ -16,45 +17,46 @@ use Rattle.hv_history.specs.Answers.{cause_text}
 use Rattle.hv_history.specs.Lasting.{IsFront, GoesOn, Later}
 use Rattle.hv_history.specs.Legal.{Of, HasRoom, StartFits, BlockedFits, profile}
 use Rattle.hv_history.specs.Legal.{IsWaiting as WaitsNow}
-use Rattle.hv_stands.specs.Running.{Asking, next_number, opening, starting, owner_of, IsOf, IsWaiting, IsUnderWay}
+use Rattle.hv_stands.specs.Running.{Asking, next_number, opening, starting, adder_of, IsOf, IsWaiting, IsUnderWay}
 use Rattle.hv_stands.proofs.Begun.{opens, starts, begins}
 use Rattle.hv_stands.proofs.Numbers.{found, numbered-last, numbered-within}
 use Rattle.hv_trail.specs.declared.trail.TrailItem.{TrailItem}
 use Rattle.hv_trail.specs.declared.trail.TrailItem.TheVariants.{Noted}
 use Rattle.hv_trail.specs.Trail.{book_of, state_at}
+use Rattle.hv_trail.specs.Own.{IsOf as IsMine}
 use Rattle.hv_trail.specs.Steps.{HouseSeen, Call, Note, Outcome, gains, begun}
 use Rattle.hv_trail.proofs.LastingLaws.{book-append, goes-on-front}
-use Rattle.hv_actor.specs.Acting.{IsLater, Held, Went, AreRows}
-use Rattle.hv_steps.specs.hv_acts.specs.hv_telling.specs.hv_house.specs.declared.fault.HouseFault.{HouseFault}
-use Rattle.hv_steps.specs.hv_acts.specs.hv_telling.specs.hv_house.specs.declared.fault.HouseFault.TheVariants as fault
-use Rattle.hv_steps.specs.hv_acts.specs.hv_telling.specs.hv_house.specs.Faults.{EndsRun}
-use Rattle.hv_steps.specs.hv_acts.specs.declared.told.ToldHouse.{ToldHouse}
-use Rattle.hv_steps.specs.hv_acts.specs.declared.opening.Begun.{Begun}
-use Rattle.hv_steps.specs.hv_acts.specs.declared.starting.Started.{Started}
-use Rattle.hv_steps.specs.hv_acts.specs.declared.starting.Started.TheVariants as started
-use Rattle.hv_steps.specs.hv_acts.specs.declared.aborted.Aborted.{Aborted}
-use Rattle.hv_steps.specs.hv_acts.specs.declared.fault.BeginFault.{BeginFault}
-use Rattle.hv_steps.specs.hv_acts.specs.declared.fault.BeginFault.TheVariants as hindered_by
-use Rattle.hv_steps.specs.hv_acts.specs.declared.fault.ActFault.{ActFault}
-use Rattle.hv_steps.specs.hv_acts.specs.declared.fault.ActFault.TheVariants as act
-use Rattle.hv_steps.specs.hv_acts.specs.Told.{seen_in, trail_in, book_in}
-use Rattle.hv_steps.specs.hv_acts.specs.Answers.{NoTest, answer_call, answer_outcome, adds_entry, AnswerLeaves}
-use Rattle.hv_steps.specs.hv_acts.specs.Beginning.{begin_call, begin_outcome, adds_beginning, BeginAnswers, BeginLeaves, IsBeginningCut}
-use Rattle.hv_steps.specs.hv_acts.specs.Starting.{to_start, call_to_start, adds_started, IsShort, IsInItsWay, StartOrAbortAnswers}
-use Rattle.hv_steps.specs.hv_acts.specs.Waiting.{next_opened, OpenAnswers}
-use Rattle.hv_steps.specs.hv_acts.proofs.Leaves.{answer-rises, begin-rises}
+use Rattle.hv_actor.specs.Acting.{IsLater, Went, AreRows, among, known, Moment, Held}
+use Rattle.hv_steps.specs.hv_table_reader.specs.hv_acts.specs.hv_telling.specs.hv_house.specs.declared.fault.HouseFault.{HouseFault}
+use Rattle.hv_steps.specs.hv_table_reader.specs.hv_acts.specs.hv_telling.specs.hv_house.specs.declared.fault.HouseFault.TheVariants as fault
+use Rattle.hv_steps.specs.hv_table_reader.specs.hv_acts.specs.hv_telling.specs.hv_house.specs.Faults.{EndsRun}
+use Rattle.hv_steps.specs.hv_table_reader.specs.hv_acts.specs.declared.told.ToldHouse.{ToldHouse}
+use Rattle.hv_steps.specs.hv_table_reader.specs.hv_acts.specs.declared.opening.Begun.{Begun}
+use Rattle.hv_steps.specs.hv_table_reader.specs.hv_acts.specs.declared.starting.Started.{Started}
+use Rattle.hv_steps.specs.hv_table_reader.specs.hv_acts.specs.declared.starting.Started.TheVariants as started
+use Rattle.hv_steps.specs.hv_table_reader.specs.hv_acts.specs.declared.fault.BeginFault.{BeginFault}
+use Rattle.hv_steps.specs.hv_table_reader.specs.hv_acts.specs.declared.fault.BeginFault.TheVariants as hindered_by
+use Rattle.hv_steps.specs.hv_table_reader.specs.hv_acts.specs.declared.fault.ActFault.{ActFault}
+use Rattle.hv_steps.specs.hv_table_reader.specs.hv_acts.specs.declared.fault.ActFault.TheVariants as act
+use Rattle.hv_steps.specs.hv_table_reader.specs.hv_acts.specs.Told.{seen_in, trail_in, book_in, told_sight}
+use Rattle.hv_steps.specs.hv_table_reader.specs.hv_acts.specs.Answers.{NoTest, answer_call, answer_outcome, adds_entry, AnswerLeaves}
+use Rattle.hv_steps.specs.hv_table_reader.specs.hv_acts.specs.Beginning.{begin_call, begin_outcome, adds_beginning, BeginAnswers, BeginLeaves, IsBeginningCut}
+use Rattle.hv_steps.specs.hv_table_reader.specs.hv_acts.specs.Starting.{to_start, call_to_start, adds_started, IsShort, IsInItsWay, StartOrAbortAnswers}
+use Rattle.hv_steps.specs.hv_table_reader.specs.hv_acts.specs.Waiting.{next_opened, OpenAnswers, OpenLeaves, IsOpeningCut}
+use Rattle.hv_steps.specs.hv_table_reader.specs.hv_acts.proofs.Leaves.{answer-rises, begin-rises, open-rises}
+use Rattle.hv_steps.specs.hv_table_reader.specs.hv_acts.proofs.Mine.{noted-mine}
 use Rattle.hv_steps.specs.Ending.{aborting, KeepsCount, HasReplied}
-use Rattle.hv_steps.specs.hv_acts.specs.Meant.{IsNoEnd}
+use Rattle.hv_steps.specs.hv_table_reader.specs.hv_acts.specs.Meant.{IsNoEnd}
 use Rattle.hv_steps.proofs.Replied.{waiting-abort-replies}
 use Rattle.hv_steps.specs.declared.reply.Done.{Done}
 use Rattle.hv_steps.specs.declared.reply.Done.TheVariants as done
 use Rattle.hv_steps.specs.declared.reply.Opened.{Opened}
 use Rattle.hv_steps.specs.declared.reply.Opened.TheVariants as opened
 use Rattle.hv_steps.specs.Going.{faults_in, IsOpenHouse, IsShutHouse, IsShutBetween, AddsOwn, Gains, GainsSome, Halts}
-use Rattle.hv_steps.specs.Phases.{WasSoBetween, OpensAt, IsHinderedAt, IsHinderedBefore, IsNextAt, BeginsAt, StartsAt, IsStoppedAt, AbortsFor, NoCause, Begins, HaltsBeginning}
+use Rattle.hv_steps.specs.Phases.{WasSoBetween, OpensAt, IsHinderedAt, IsHinderedBefore, IsNextAt, BeginsAt, StartsAt, IsStoppedAt, AbortsFor, NoCause, Begins, AddsNone, HaltsBeginning, HaltsOpened, BegunBy}
 use Rattle.hv_steps.specs.Leaving.{IsLeftFor, EndsAct}
 use Rattle.hv_session.specs.Beginnings.{GoesBeginning, WasHindered, way_of, BeginsAtOnce, IsLeftRunning, OpenedFirst, OpensSo, WaitsIn, reply_of, started_as, StartsSo}
-use Rattle.hv_steps.proofs.Joining.{HeldBy, FoundOpen, RisesBy, held-front, held-adds, shut-found, fault-left, test-left, act-left, why-names, note-ends, ends-rise, front-went, so-now, waited-lasts, adds-none, adds-more, adds-front, gains-behind, halts-behind, halts-none}
+use Rattle.hv_steps.proofs.Joining.{FoundOpen, RisesBy, held-front, held-adds, shut-found, test-left, act-left, why-names, note-ends, ends-rise, front-itself, front-went, so-now, waited-lasts, adds-none, adds-more, adds-front, gains-behind}
 use Rattle.hv_session.proofs.Waits.{waits-at, open-fits}
 
 -- ---- what was so between
@@ -166,12 +168,17 @@ way-counts low high trail txn (cause.Blocked holder) is = tt
 way-counts low high trail txn cause.Full is = tt
 way-counts low high trail txn why is = absurd is
 
+way-own : (trail : List TrailItem) (txn : TxnId) (why : Cause) → IsInItsWay trail txn why → IsOf txn.0 (aborting txn.0 why)
+way-own trail txn (cause.Blocked holder) is = refl
+way-own trail txn cause.Full is = refl
+way-own trail txn why is = absurd is
+
 -- its Opened is its own, and ends nothing
 opened-of : (asking : Asking) (txn : ℕ) (event : Entry) (trail : List TrailItem) → OpensAt asking txn event trail → IsOf txn event
-opened-of asking txn event trail at = ap owner_of at.event_is ∙ ap (λ (n : ℕ). Some n) (sym at.txn_is)
+opened-of asking txn event trail at = ap adder_of at.event_is ∙ ap (λ (n : ℕ). Some n) (sym at.txn_is)
 
-opened-no-end : (asking : Asking) (txn : ℕ) (event : Entry) (trail : List TrailItem) → OpensAt asking txn event trail → IsNoEnd event
-opened-no-end asking txn event trail at = subst IsNoEnd (sym at.event_is) tt
+opened-no-end : (asking : Asking) (txn : ℕ) (event : Entry) (trail : List TrailItem) → OpensAt asking txn event trail → IsNoEnd txn event
+opened-no-end asking txn event trail at = subst (IsNoEnd txn) (sym at.event_is) tt
 
 -- a text has one tree
 pub one-tree : (text : List ℕ) (a b : Stmt) → Runs text a → Runs text b → a ≡ b
@@ -207,47 +214,51 @@ stopped-replied book now asking tree txn why text place waiting noted line at =
 module _ {D : Type 0} (told : D → Option Store) (faults : D → ℕ) (B : List TrailItem → Type 0) (rows : AreRows B) (meanwhile : ToldHouse D → ToldHouse D → Type 0)
     (goes : (before now : ToldHouse D) → meanwhile before now → IsLater faults (seen_in before) (seen_in now)) where
   between-held : (Is : List TrailItem → Type 0) (before now : ToldHouse D) (call : HouseSeen D → Call) (outcome : Outcome) (does : HouseSeen D → HouseSeen D → Type 0)
-      (held : HeldBy told faults meanwhile before now call outcome does) → Is (trail_in held.house) → WasSoBetween before now Is
+      (held : Held (told_sight told faults) meanwhile before now call outcome does) → Is (trail_in held.house) → WasSoBetween before now Is
   between-held Is before now call outcome does held is =
       let front = held-front told faults meanwhile goes before now call outcome does held in
       record { trail = trail_in held.house; later = (front.more, front.is); front = (gains (call (seen_in held.house)) outcome, held.step.trail); was = is }
 
   -- nothing was added
-  gains-none : (low txn : ℕ) (own own' : List ℕ) (before now : ToldHouse D) (Is : List Entry → Type 0) → AddsOwn faults B own own' before now [] → IsOpenHouse now → Is []
-      → Gains faults B low txn own own' before now Is
+  gains-none : (low txn : ℕ) (own own' : List ℕ) (before now : ToldHouse D) (Is : List Entry → Type 0)
+      → AddsOwn faults B txn (known own before) (known own' now) [] → IsOpenHouse now → Is []
+      → Gains faults B low txn (known own before) (known own' now) Is
   gains-none low txn own own' before now Is adds running is = record { added = []; adds = adds; of_it = tt; counts = tt; is = is; running = running }
 
   -- ---- opened and started at once
 
   abbrev BeginHeld : ToldHouse D → ToldHouse D → Asking → Stmt → Result Begun BeginFault → Type 0
   BeginHeld before now asking tree result =
-      HeldBy told faults meanwhile before now (λ house. begin_call house.trail asking.session asking.number asking.text result) (begin_outcome result)
+      Held (told_sight told faults) meanwhile before now (λ house. begin_call house.trail asking.session asking.number asking.text result)
+      (begin_outcome result)
       (λ house after. BeginAnswers house.trail tree result × BeginLeaves told faults asking house after result)
 
   module _ (before now : ToldHouse D) (own own' : List ℕ) (asking : Asking) (tree : Stmt) where
-    begin-adds : (result : Result Begun BeginFault) (gained : List TrailItem) (added : List Entry) (held : BeginHeld before now asking tree result)
+    begin-adds : {by : ℕ} (result : Result Begun BeginFault) (gained : List TrailItem) (added : List Entry) (held : BeginHeld before now asking tree result)
         → Went B gained own own' (trail_in before) (trail_in now) → book_of gained ≡ added
-        → RisesBy (begin_outcome result) (faults_in faults held.house) (faults_in faults now) → AddsOwn faults B own own' before now added
-    begin-adds result gained added held went entries rises =
+        → RisesBy (begin_outcome result) (faults_in faults held.house) (faults_in faults now) → AllByRecursion (IsMine by) gained
+        → AddsOwn faults B by (known own before) (known own' now) added
+    begin-adds result gained added held went entries rises mine =
         held-adds told faults meanwhile goes before now B _ _ _ gained added own own' held went entries rises
-        (begin-rises told faults asking result (seen_in held.house) (seen_in now) held.does_it.1 held.step.closed)
+        (begin-rises told faults asking result (seen_in held.house) (seen_in now) held.does_it.1 held.step.closed) mine
 
-    begin-shut : AddsOwn faults B own own' before now [] → IsShutHouse now → IsShutBetween meanwhile ⊎ FoundOpen told now (IsBeginningCut told asking)
-        → HaltsBeginning told faults B meanwhile asking own own' before now fault.Store
+    begin-shut : AddsNone faults B (known own before) (known own' now) → IsShutHouse now → IsShutBetween meanwhile
+        ⊎ FoundOpen told now (IsBeginningCut told asking)
+        → HaltsBeginning (among told faults B meanwhile) asking (known own before) (known own' now) fault.Store
     begin-shut adds is (inl shut) =
         let txn : ℕ = next_number (book_in before) in
         inl (
           txn,
-          between-first (IsNextAt txn) before now (adds-front faults B rows own own' before now [] adds) refl,
-          halts-none faults B rows told meanwhile txn own own' before now fault.Store adds (inl shut),
+          between-first (IsNextAt txn) before now (adds-front faults B rows own own' before now [] (adds txn)) refl,
+          record { stop = record { added = []; adds = adds txn; of_it = tt; unended = tt; halts = inl shut }; begun_by = tt },
         )
     begin-shut adds is (inr open_) =
-        inr (refl, adds, record { house = open_.house; kept = open_.kept; was = open_.was; is = is; same = open_.same; cut = open_.cut })
+        inr (inl (refl, adds, record { house = open_.house; kept = open_.kept; was = open_.was; is = is; same = open_.same; cut = open_.cut }))
 
     pub at-once : Runs asking.text tree → IsOpenHouse before → (result : Result Begun BeginFault)
         → Went B (adds_beginning asking.session asking.number asking.text result) own own' (trail_in before) (trail_in now)
         → BeginHeld before now asking tree result
-        → BeginsAtOnce told faults B meanwhile asking tree own own' before now result
+        → BeginsAtOnce (among told faults B meanwhile) asking tree (known own before) (known own' now) result
     at-once runs running (Ok start) went held =
         let trail : List TrailItem = trail_in held.house in
         let book : List Entry = book_of trail in
@@ -262,7 +273,7 @@ module _ {D : Type 0} (told : D → Option Store) (faults : D → ℕ) (B : List
           record {
             added = event ∷ starting start.txn.0 ∷ [];
             adds = begin-adds (Ok start) (map Noted (begun start.txn asking.session asking.number asking.text))
-                (event ∷ starting start.txn.0 ∷ []) held went refl tt;
+                (event ∷ starting start.txn.0 ∷ []) held went refl tt (refl, (refl, tt));
             of_it = (refl, (refl, tt));
             counts = (tt, (tt, tt));
             is = record {
@@ -276,30 +287,35 @@ module _ {D : Type 0} (told : D → Option Store) (faults : D → ℕ) (B : List
             };
             running = opens-on held.house.house.trail.closed now.house.trail.closed false held.step.closed held.does_it.1 refl;
           },
+          between-held (IsNextAt start.txn.0) before now _ _ _ held held.does_it.0.txn_is,
         )
     at-once runs running (Err (hindered_by.Held by)) went held = record {
-      adds = begin-adds (Err (hindered_by.Held by)) [] [] held went refl tt;
+      adds = λ whose. begin-adds (Err (hindered_by.Held by)) [] [] held went refl tt tt;
       hindered = between-held (IsHinderedAt tree) before now _ _ _ held (λ can. held-cannot _ by.0 held.does_it.0 can.1);
       running = (test-left told faults meanwhile goes before now _ _ held held.does_it.1).0;
     }
     at-once runs running (Err (hindered_by.Full entries)) went held = record {
-      adds = begin-adds (Err (hindered_by.Full entries)) [] [] held went refl tt;
+      adds = λ whose. begin-adds (Err (hindered_by.Full entries)) [] [] held went refl tt tt;
       hindered = between-held (IsHinderedAt tree) before now _ _ _ held (λ can. held.does_it.0.2 can.0);
       running = (test-left told faults meanwhile goes before now _ _ held held.does_it.1).0;
     }
-    at-once runs running (Err (hindered_by.House fault.NoMemory)) went held = record {
-      done = (
-        0,
-        gains-none (faults_in faults before) 0 own own' before now (λ (added : List Entry). added ≡ [])
-            (begin-adds (Err (hindered_by.House fault.NoMemory)) [] [] held went refl tt)
-            (test-left told faults meanwhile goes before now _ _ held held.does_it.1).0 refl,
-      );
-      halted = tt;
-      ends = tt;
-    }
+    at-once runs running (Err (hindered_by.House fault.NoMemory)) went held =
+        let txn : ℕ = next_number (book_of (trail_in held.house)) in
+        record {
+          done = (
+            txn,
+            gains-none (faults_in faults before) txn own own' before now (λ (added : List Entry). added ≡ [])
+                (begin-adds (Err (hindered_by.House fault.NoMemory)) [] [] held went refl tt tt)
+                (test-left told faults meanwhile goes before now _ _ held held.does_it.1).0 refl,
+            between-held (IsNextAt txn) before now _ _ _ held refl,
+          );
+          halted = tt;
+          ends = tt;
+        }
     at-once runs running (Err (hindered_by.House fault.Store)) went held = record {
       done = tt;
-      halted = begin-shut (begin-adds (Err (hindered_by.House fault.Store)) [] [] held went refl tt) (held.step.closed ∙ or-true held.house.house.trail.closed)
+      halted = begin-shut (λ whose. begin-adds (Err (hindered_by.House fault.Store)) [] [] held went refl tt tt)
+          (held.step.closed ∙ or-true held.house.house.trail.closed)
           (shut-found told faults meanwhile goes before now _ _ (IsBeginningCut told asking) held running (λ open_. (held.does_it.1 open_).0));
       ends = tt;
     }
@@ -309,8 +325,9 @@ module _ {D : Type 0} (told : D → Option Store) (faults : D → ℕ) (B : List
 
   abbrev OpenHeld : ToldHouse D → ToldHouse D → Asking → Result TxnId ActFault → Type 0
   OpenHeld before now asking result =
-      HeldBy told faults meanwhile before now (λ house. answer_call (Note (next_opened house.trail asking.session asking.number asking.text)) result) (answer_outcome result)
-      (λ house after. OpenAnswers house.trail result × AnswerLeaves told faults (next_number (book_of house.trail)) house after result)
+      Held (told_sight told faults) meanwhile before now (λ house. answer_call (Note (next_opened house.trail asking.session asking.number asking.text)) result)
+      (answer_outcome result)
+      (λ house after. OpenAnswers house.trail result × OpenLeaves told faults asking house after result)
 
   pub opened-waits : (before now : ToldHouse D) (asking : Asking) (tree : Stmt) → Runs asking.text tree → (result : Result TxnId ActFault) → OpenHeld before now asking result
       → IfOk result (λ txn. WaitsIn now asking tree txn.0)
@@ -324,31 +341,49 @@ module _ {D : Type 0} (told : D → Option Store) (faults : D → ℕ) (B : List
             (opened-waiting book (book_in now) asking tree txn.0 runs noted (ap (λ (t : TxnId). t.0) held.does_it.0.1)),
       )
 
-  open-adds : (before now : ToldHouse D) (own own' : List ℕ) (asking : Asking) (result : Result TxnId ActFault) (gained : List TrailItem) (added : List Entry)
+  open-adds : {by : ℕ} (before now : ToldHouse D) (own own' : List ℕ) (asking : Asking) (result : Result TxnId ActFault) (gained : List TrailItem)
+      (added : List Entry)
       (held : OpenHeld before now asking result) → Went B gained own own' (trail_in before) (trail_in now) → book_of gained ≡ added
-      → RisesBy (answer_outcome result) (faults_in faults held.house) (faults_in faults now) → AddsOwn faults B own own' before now added
-  open-adds before now own own' asking result gained added held went entries rises =
+      → RisesBy (answer_outcome result) (faults_in faults held.house) (faults_in faults now) → AllByRecursion (IsMine by) gained
+      → AddsOwn faults B by (known own before) (known own' now) added
+  open-adds before now own own' asking result gained added held went entries rises mine =
       held-adds told faults meanwhile goes before now B _ _ _ gained added own own' held went entries rises
-      (answer-rises told faults (next_number (book_of (trail_in held.house))) result (seen_in held.house) (seen_in now) held.does_it.1 held.step.closed)
+      (open-rises told faults asking result (seen_in held.house) (seen_in now) held.does_it.1 held.step.closed) mine
 
   module _ (first before now : ToldHouse D) (own0 own own' : List ℕ) (asking : Asking) (tree : Stmt) where
     -- nothing was added behind a beginning that was hindered
-    hindered-none : WasHindered faults B tree own0 own first before → AddsOwn faults B own own' before now [] → AddsOwn faults B own0 own' first now []
-    hindered-none was adds = adds-more faults B rows own0 own own' first before now [] [] was.adds adds
+    hindered-none : {by : ℕ} → WasHindered faults B tree (known own0 first) (known own before) → AddsOwn faults B by (known own before) (known own' now) []
+        → AddsOwn faults B by (known own0 first) (known own' now) []
+    hindered-none {by = by} was adds = adds-more faults B rows own0 own own' first before now [] [] (was.adds by) adds
+
+    -- others closed the house, or the store failed where it was to be opened
+    open-shut : OpenHeld before now asking (Err (act.House fault.Store)) → WasHindered faults B tree (known own0 first) (known own before)
+        → AddsNone faults B (known own0 first) (known own' now) → IsShutBetween meanwhile ⊎ FoundOpen told now (IsOpeningCut told asking)
+        → HaltsBeginning (among told faults B meanwhile) asking (known own0 first) (known own' now) fault.Store
+    open-shut held was adds (inl shut) =
+        let txn : ℕ = next_number (book_of (trail_in held.house)) in
+        inl (
+          txn,
+          between-earlier (IsNextAt txn) first before now (adds-front faults B rows own0 own first before [] (was.adds txn))
+              (between-held (IsNextAt txn) before now _ _ _ held refl),
+          record { stop = record { added = []; adds = adds txn; of_it = tt; unended = tt; halts = inl shut }; begun_by = tt },
+        )
+    open-shut held was adds (inr open_) =
+        inr (inr (refl, adds, record { house = open_.house; kept = open_.kept; was = open_.was; is = open_.is; same = open_.same; cut = open_.cut }))
 
     pub opens-so : Runs asking.text tree → IsOpenHouse before → (result : Result TxnId ActFault)
         → Went B (adds_entry (λ (txn : TxnId). entry.Opened txn asking.session asking.number asking.text) result) own own' (trail_in before) (trail_in now)
-        → OpenHeld before now asking result → WasHindered faults B tree own0 own first before
-        → OpensSo told faults B meanwhile asking tree own0 own' first now result
+        → OpenHeld before now asking result → WasHindered faults B tree (known own0 first) (known own before)
+        → OpensSo (among told faults B meanwhile) asking tree (known own0 first) (known own' now) result
     opens-so runs running (Ok txn) went held was =
         let event : Entry = entry.Opened txn asking.session asking.number asking.text in
         let trail : List TrailItem = trail_in held.house in
-        let front = adds-front faults B rows own0 own first before [] was.adds in
+        let front = adds-front faults B rows own0 own first before [] (was.adds txn.0) in
         let waits = opened-waits before now asking tree runs (Ok txn) held in
         record {
           event = event;
-          adds = adds-more faults B rows own0 own own' first before now [] (event ∷ []) was.adds
-              (open-adds before now own own' asking (Ok txn) (Noted event ∷ []) (event ∷ []) held went refl tt);
+          adds = adds-more faults B rows own0 own own' first before now [] (event ∷ []) (was.adds txn.0)
+              (open-adds before now own own' asking (Ok txn) (Noted event ∷ []) (event ∷ []) held went refl tt (refl, tt));
           was_opened = between-earlier (OpensAt asking txn.0 event) first before now front
               (between-held (OpensAt asking txn.0 event) before now _ _ _ held (record {
                 txn_is = ap (λ (t : TxnId). t.0) held.does_it.0.1;
@@ -361,42 +396,43 @@ module _ {D : Type 0} (told : D → Option Store) (faults : D → ℕ) (B : List
         }
     opens-so runs running (Err (act.Full entries)) went held was =
         let left = test-left told faults meanwhile goes before now _ _ held held.does_it.1 in
+        let txn : ℕ = next_number (book_of (trail_in held.house)) in
         record {
           done = (
-            0,
-            gains-none (faults_in faults first) 0 own0 own' first now (Begins first now asking tree (opened.Full entries))
-                (hindered-none was (open-adds before now own own' asking (Err (act.Full entries)) [] [] held went refl tt)) left.0 (
+            txn,
+            gains-none (faults_in faults first) txn own0 own' first now (Begins first now asking tree (opened.Full entries))
+                (hindered-none was (open-adds before now own own' asking (Err (act.Full entries)) [] [] held went refl tt tt)) left.0 (
                   refl,
                   subst (λ (trail : List TrailItem). entries ≡ length (book_of trail)) (sym left.1) held.does_it.0.0,
                   subst (λ (trail : List TrailItem). HasRoom profile (state_at trail) 2 → ⊥) (sym left.1) held.does_it.0.1,
                 ),
+            between-earlier (IsNextAt txn) first before now (adds-front faults B rows own0 own first before [] (was.adds txn))
+                (between-held (IsNextAt txn) before now _ _ _ held refl),
           );
           halted = tt;
           ends = tt;
         }
-    opens-so runs running (Err (act.House fault.NoMemory)) went held was = record {
-      done = (
-        0,
-        gains-none (faults_in faults first) 0 own0 own' first now (λ (added : List Entry). added ≡ [])
-            (hindered-none was (open-adds before now own own' asking (Err (act.House fault.NoMemory)) [] [] held went refl tt))
-            (test-left told faults meanwhile goes before now _ _ held held.does_it.1).0 refl,
-      );
-      halted = tt;
-      ends = tt;
-    }
-    opens-so runs running (Err (act.House fault.Store)) went held was =
+    opens-so runs running (Err (act.House fault.NoMemory)) went held was =
         let txn : ℕ = next_number (book_of (trail_in held.house)) in
         record {
-          done = tt;
-          halted = inl (
+          done = (
             txn,
-            between-earlier (IsNextAt txn) first before now (adds-front faults B rows own0 own first before [] was.adds) (between-held (IsNextAt txn) before now _ _ _ held refl),
-            halts-none faults B rows told meanwhile txn own0 own' first now fault.Store
-                (hindered-none was (open-adds before now own own' asking (Err (act.House fault.Store)) [] [] held went refl tt))
-                (fault-left told faults meanwhile goes before now _ fault.Store _ txn held running held.does_it.1),
+            gains-none (faults_in faults first) txn own0 own' first now (λ (added : List Entry). added ≡ [])
+                (hindered-none was (open-adds before now own own' asking (Err (act.House fault.NoMemory)) [] [] held went refl tt tt))
+                (test-left told faults meanwhile goes before now _ _ held held.does_it.1).0 refl,
+            between-earlier (IsNextAt txn) first before now (adds-front faults B rows own0 own first before [] (was.adds txn))
+                (between-held (IsNextAt txn) before now _ _ _ held refl),
           );
+          halted = tt;
           ends = tt;
         }
+    opens-so runs running (Err (act.House fault.Store)) went held was = record {
+      done = tt;
+      halted = open-shut held was
+          (λ by. hindered-none {by = by} was (open-adds {by = by} before now own own' asking (Err (act.House fault.Store)) [] [] held went refl tt tt))
+          (shut-found told faults meanwhile goes before now _ _ (IsOpeningCut told asking) held running (λ open_. (held.does_it.1 open_).0));
+      ends = tt;
+    }
     opens-so runs running (Err (act.House (fault.Failed count))) went held was = absurd held.step.may
     opens-so runs running (Err (act.Ended at)) went held was = absurd held.does_it.0
     opens-so runs running (Err (act.Held by)) went held was = absurd held.does_it.0
@@ -407,15 +443,17 @@ module _ {D : Type 0} (told : D → Option Store) (faults : D → ℕ) (B : List
 
   abbrev StartHeld : ToldHouse D → ToldHouse D → TxnId → Result Started ActFault → Type 0
   StartHeld before now txn result =
-      HeldBy told faults meanwhile before now (λ house. call_to_start house.trail txn result) (answer_outcome result)
+      Held (told_sight told faults) meanwhile before now (λ house. call_to_start house.trail txn result) (answer_outcome result)
       (λ house after. StartOrAbortAnswers house.trail txn result × AnswerLeaves told faults txn.0 house after result)
 
-  start-adds : (before now : ToldHouse D) (own own' : List ℕ) (txn : TxnId) (result : Result Started ActFault) (gained : List TrailItem) (added : List Entry)
+  start-adds : {by : ℕ} (before now : ToldHouse D) (own own' : List ℕ) (txn : TxnId) (result : Result Started ActFault) (gained : List TrailItem)
+      (added : List Entry)
       (held : StartHeld before now txn result) → Went B gained own own' (trail_in before) (trail_in now) → book_of gained ≡ added
-      → RisesBy (answer_outcome result) (faults_in faults held.house) (faults_in faults now) → AddsOwn faults B own own' before now added
-  start-adds before now own own' txn result gained added held went entries rises =
+      → RisesBy (answer_outcome result) (faults_in faults held.house) (faults_in faults now) → AllByRecursion (IsMine by) gained
+      → AddsOwn faults B by (known own before) (known own' now) added
+  start-adds before now own own' txn result gained added held went entries rises mine =
       held-adds told faults meanwhile goes before now B _ _ _ gained added own own' held went entries rises
-      (answer-rises told faults txn.0 result (seen_in held.house) (seen_in now) held.does_it.1 held.step.closed)
+      (answer-rises told faults txn.0 result (seen_in held.house) (seen_in now) held.does_it.1 held.step.closed) mine
 
   pub start-left : (before now : ToldHouse D) (txn : TxnId) → IsOpenHouse before → (result : Result Started ActFault) → StartHeld before now txn result
       → IfErr result (IsLeftFor told meanwhile txn.0 now)
@@ -429,22 +467,32 @@ module _ {D : Type 0} (told : D → Option Store) (faults : D → ℕ) (B : List
 
   module _ (first before now : ToldHouse D) (own0 own own' : List ℕ) (asking : Asking) (said : Stmt) where
     -- what is added behind its Opened
-    behind-opened : (txn : ℕ) (was : OpenedFirst faults B asking txn said own0 own first before) (Is Js : List Entry → Type 0)
-        → ((more : List Entry) → Is more → Js (was.event ∷ more)) → Gains faults B (faults_in faults before) txn own own' before now Is
-        → Gains faults B (faults_in faults first) txn own0 own' first now Js
+    behind-opened : (txn : ℕ) (was : OpenedFirst faults B asking txn said (known own0 first) (known own before)) (Is Js : List Entry → Type 0)
+        → ((more : List Entry) → Is more → Js (was.event ∷ more)) → Gains faults B (faults_in faults before) txn (known own before) (known own' now) Is
+        → Gains faults B (faults_in faults first) txn (known own0 first) (known own' now) Js
     behind-opened txn was Is Js f gained =
-        gains-behind faults B rows (faults_in faults first) (faults_in faults before) txn own0 own own' first before now (was.event ∷ []) Is Js was.adds.count was.adds
+        gains-behind faults B rows (faults_in faults first) (faults_in faults before) txn own0 own own' first before now (was.event ∷ []) Is Js was.adds.later.count was.adds
         (opened-of asking txn was.event was.was_opened.trail was.was_opened.was, tt) (opened-no-end asking txn was.event was.was_opened.trail was.was_opened.was, tt) f gained
 
-    halts-opened : (txn : ℕ) (why : HouseFault) (was : OpenedFirst faults B asking txn said own0 own first before) → Halts told faults B meanwhile txn own own' before now why
-        → Halts told faults B meanwhile txn own0 own' first now why
-    halts-opened txn why was halts =
-        halts-behind faults B rows told meanwhile txn own0 own own' first before now (was.event ∷ []) why was.adds
-        (opened-of asking txn was.event was.was_opened.trail was.was_opened.was, tt) (opened-no-end asking txn was.event was.was_opened.trail was.was_opened.was, tt) halts
+    -- and it stops behind its Opened, which is this statement's
+    halts-opened : (txn : ℕ) (why : HouseFault) (was : OpenedFirst faults B asking txn said (known own0 first) (known own before))
+        → Halts (among told faults B meanwhile) txn (known own before) (known own' now) why
+        → HaltsOpened (among told faults B meanwhile) asking txn (known own0 first) (known own' now) why
+    halts-opened txn why was halts = record {
+      stop = record {
+        added = was.event ∷ halts.added;
+        adds = adds-more faults B rows own0 own own' first before now (was.event ∷ []) halts.added was.adds halts.adds;
+        of_it = (opened-of asking txn was.event was.was_opened.trail was.was_opened.was, halts.of_it);
+        unended = (opened-no-end asking txn was.event was.was_opened.trail was.was_opened.was, halts.unended);
+        halts = halts.halts;
+      };
+      begun_by = subst (λ (event : Entry). BegunBy asking (event ∷ halts.added)) (sym was.was_opened.was.event_is) (refl, refl, refl);
+    }
 
     -- it is open still
-    opened-still : (txn : ℕ) → OpenedFirst faults B asking txn said own0 own first before → AddsOwn faults B own own' before now []
-        → OpenedFirst faults B asking txn said own0 own' first now
+    opened-still : (txn : ℕ) → OpenedFirst faults B asking txn said (known own0 first) (known own before)
+        → AddsOwn faults B txn (known own before) (known own' now) []
+        → OpenedFirst faults B asking txn said (known own0 first) (known own' now)
     opened-still txn was adds =
         let front = adds-front faults B rows own own' before now [] adds in
         record {
@@ -457,8 +505,8 @@ module _ {D : Type 0} (told : D → Option Store) (faults : D → ℕ) (B : List
 
     pub starts-so : (txn : TxnId) → IsOpenHouse before → (result : Result Started ActFault)
         → Went B (adds_started txn result) own own' (trail_in before) (trail_in now) → StartHeld before now txn result
-        → OpenedFirst faults B asking txn.0 said own0 own first before
-        → StartsSo faults B asking txn said own0 own' first now result
+        → OpenedFirst faults B asking txn.0 said (known own0 first) (known own before)
+        → StartsSo (among told faults B meanwhile) asking txn said (known own0 first) (known own' now) result
     starts-so txn running (Ok (started.At place)) went held was =
         let trail : List TrailItem = trail_in held.house in
         let book : List Entry = book_of trail in
@@ -486,12 +534,13 @@ module _ {D : Type 0} (told : D → Option Store) (faults : D → ℕ) (B : List
               })
               (record {
                 added = start ∷ [];
-                adds = start-adds before now own own' txn (Ok (started.At place)) (Noted start ∷ []) (start ∷ []) held went refl tt;
+                adds = start-adds before now own own' txn (Ok (started.At place)) (Noted start ∷ []) (start ∷ []) held went refl tt (refl, tt);
                 of_it = (refl, tt);
                 counts = (tt, tt);
                 is = refl;
                 running = opens-on held.house.house.trail.closed now.house.trail.closed false held.step.closed held.does_it.1 refl;
               }),
+          between-more (IsNextAt txn.0) first before now front (next-opened first before asking txn.0 was.event was.was_opened),
         )
     starts-so txn running (Ok (started.Aborted aborted)) went held was =
         let trail : List TrailItem = trail_in held.house in
@@ -531,17 +580,19 @@ module _ {D : Type 0} (told : D → Option Store) (faults : D → ℕ) (B : List
               })
               (record {
                 added = last ∷ [];
-                adds = start-adds before now own own' txn (Ok (started.Aborted aborted)) (Noted last ∷ []) (last ∷ []) held went refl tt;
-                of_it = (refl, tt);
+                adds = start-adds {by = txn.0} before now own own' txn (Ok (started.Aborted aborted)) (Noted last ∷ []) (last ∷ []) held went refl tt
+                    (noted-mine txn.0 last (way-own trail txn aborted.cause stopped), tt);
+                of_it = (way-own trail txn aborted.cause stopped, tt);
                 counts = (way-counts (faults_in faults before) (faults_in faults now) trail txn aborted.cause stopped, tt);
                 is = refl;
                 running = opens-on held.house.house.trail.closed now.house.trail.closed false held.step.closed held.does_it.1 refl;
               }),
+          between-more (IsNextAt txn.0) first before now front (next-opened first before asking txn.0 was.event was.was_opened),
         )
     starts-so txn running (Err why) went held was =
         let ends = start-ends before now txn (Err why) held in
         opened-still txn.0 was (start-adds before now own own' txn (Err why) [] [] held went refl
-        (ends-rise {T = Started} (Err why) (faults_in faults held.house) (faults_in faults now) ends))
+        (ends-rise {T = Started} (Err why) (faults_in faults held.house) (faults_in faults now) ends) tt)
 
     -- ---- ended where it was neither started nor aborted
 
@@ -552,7 +603,8 @@ module _ {D : Type 0} (told : D → Option Store) (faults : D → ℕ) (B : List
     abbrev ForMemory : ℕ → Done → List Entry → Type 0
     ForMemory txn found added = AbortsFor txn now [] NoCause found added
 
-    lacked : (txn : ℕ) (was : OpenedFirst faults B asking txn said own0 own first before) → IsFront (trail_in before) (trail_in now) → (found : Done) (more : List Entry)
+    lacked : (txn : ℕ) (was : OpenedFirst faults B asking txn said (known own0 first) (known own before)) → IsFront (trail_in before) (trail_in now)
+        → (found : Done) (more : List Entry)
         → ForMemory txn found more → Begins first now asking said (opened.Ended found) (was.event ∷ more)
     lacked txn was front (done.Replied reply) more is = record {
       runs = was.waited.was.runs;
@@ -572,7 +624,7 @@ module _ {D : Type 0} (told : D → Option Store) (faults : D → ℕ) (B : List
         is.3,
       );
     }
-    lacked txn was front (done.Gone at) more is = record {
+    lacked txn was front (done.Gone reply) more is = record {
       runs = was.waited.was.runs;
       txn = txn;
       event = was.event;
@@ -580,22 +632,24 @@ module _ {D : Type 0} (told : D → Option Store) (faults : D → ℕ) (B : List
       ends = (ap (λ (xs : List Entry). was.event ∷ xs) is.0, is.1);
     }
 
-    pub lacks-gained : (txn : ℕ) (found : Done) → Gains faults B (faults_in faults before) txn own own' before now (ForMemory txn found)
-        → OpenedFirst faults B asking txn said own0 own first before
-        → GoesBeginning told faults B meanwhile asking said own0 own' first now (Ok (opened.Ended found))
+    pub lacks-gained : (txn : ℕ) (found : Done) → Gains faults B (faults_in faults before) txn (known own before) (known own' now) (ForMemory txn found)
+        → OpenedFirst faults B asking txn said (known own0 first) (known own before)
+        → GoesBeginning (among told faults B meanwhile) asking said (known own0 first) (known own' now) (Ok (opened.Ended found))
     lacks-gained txn found gained was = record {
       done = (
         txn,
         behind-opened txn was (ForMemory txn found) (Begins first now asking said (opened.Ended found))
             (λ more is. lacked txn was (adds-front faults B rows own own' before now gained.added gained.adds) found more is) gained,
+        between-more (IsNextAt txn) first before now (adds-front faults B rows own own' before now gained.added gained.adds)
+            (next-opened first before asking txn was.event was.was_opened),
       );
       halted = tt;
       ends = tt;
     }
 
-    pub lacks-halted : (txn : ℕ) (why : HouseFault) → Halts told faults B meanwhile txn own own' before now why → EndsRun why
-        → OpenedFirst faults B asking txn said own0 own first before
-        → GoesBeginning told faults B meanwhile asking said own0 own' first now (Err why)
+    pub lacks-halted : (txn : ℕ) (why : HouseFault) → Halts (among told faults B meanwhile) txn (known own before) (known own' now) why → EndsRun why
+        → OpenedFirst faults B asking txn said (known own0 first) (known own before)
+        → GoesBeginning (among told faults B meanwhile) asking said (known own0 first) (known own' now) (Err why)
     lacks-halted txn why halts ends was = record {
       done = tt;
       halted = inl (
@@ -610,50 +664,64 @@ module _ {D : Type 0} (told : D → Option Store) (faults : D → ℕ) (B : List
   -- ---- answers, as they are put together
 
   pub started-goes : (first now : ToldHouse D) (own0 own' : List ℕ) (asking : Asking) (said : Stmt) (txn : TxnId) (found : Started) (result : Opened) → result ≡ started_as txn found
-      → StartsSo faults B asking txn said own0 own' first now (Ok found)
-      → GoesBeginning told faults B meanwhile asking said own0 own' first now (Ok result)
+      → StartsSo (among told faults B meanwhile) asking txn said (known own0 first) (known own' now) (Ok found)
+      → GoesBeginning (among told faults B meanwhile) asking said (known own0 first) (known own' now) (Ok result)
   started-goes first now own0 own' asking said txn found result is starts = record {
-    done = subst (λ (o : Opened). GainsSome faults B (faults_in faults first) own0 own' first now (Begins first now asking said o)) (sym is) starts;
+    done = subst (λ (o : Opened). GainsSome faults B (faults_in faults first) (known own0 first) (known own' now) (Begins first now asking said o)) (sym is)
+        starts;
     halted = tt;
     ends = tt;
   }
 
   pub gone-goes : (first now : ToldHouse D) (own0 own' : List ℕ) (asking : Asking) (said : Stmt) (found : Opened)
-      → GainsSome faults B (faults_in faults first) own0 own' first now (Begins first now asking said found)
-      → GoesBeginning told faults B meanwhile asking said own0 own' first now (Ok found)
+      → GainsSome faults B (faults_in faults first) (known own0 first) (known own' now) (Begins first now asking said found)
+      → GoesBeginning (among told faults B meanwhile) asking said (known own0 first) (known own' now) (Ok found)
   gone-goes first now own0 own' asking said found gained = record { done = gained; halted = tt; ends = tt }
 
   -- memory lacked before it was opened
-  pub hindered-lacks : (first now : ToldHouse D) (own0 own' : List ℕ) (asking : Asking) (said : Stmt) → WasHindered faults B said own0 own' first now
-      → GoesBeginning told faults B meanwhile asking said own0 own' first now (Ok opened.NoMemory)
-  hindered-lacks first now own0 own' asking said was = record {
-    done = (0, gains-none (faults_in faults first) 0 own0 own' first now (λ (added : List Entry). added ≡ []) was.adds was.running refl);
-    halted = tt;
-    ends = tt;
-  }
+  pub hindered-lacks : (first now : ToldHouse D) (own0 own' : List ℕ) (asking : Asking) (said : Stmt)
+      → WasHindered faults B said (known own0 first) (known own' now)
+      → GoesBeginning (among told faults B meanwhile) asking said (known own0 first) (known own' now) (Ok opened.NoMemory)
+  hindered-lacks first now own0 own' asking said was =
+      let txn : ℕ = next_number (book_in first) in
+      record {
+        done = (
+          txn,
+          gains-none (faults_in faults first) txn own0 own' first now (λ (added : List Entry). added ≡ []) (was.adds txn) was.running refl,
+          between-first (IsNextAt txn) first now (adds-front faults B rows own0 own' first now [] (was.adds txn)) refl,
+        );
+        halted = tt;
+        ends = tt;
+      }
 
   -- and before anything was done
   pub nothing-gained : (own : List ℕ) (house : ToldHouse D) → IsOpenHouse house
-      → GainsSome faults B (faults_in faults house) own own house house (λ (added : List Entry). added ≡ [])
+      → GainsSome faults B (faults_in faults house) (known own house) (known own house) (λ (added : List Entry). added ≡ [])
   nothing-gained own house running =
-      (0, gains-none (faults_in faults house) 0 own own house house (λ (added : List Entry). added ≡ []) (adds-none faults B rows own house) running refl)
+      let txn : ℕ = next_number (book_in house) in (
+        txn,
+        gains-none (faults_in faults house) txn own own house house (λ (added : List Entry). added ≡ []) (adds-none faults B rows own house) running refl,
+        between-first (IsNextAt txn) house house (front-itself (trail_in house)) refl,
+      )
 
   pub left-running : (before now : ToldHouse D) (own own' : List ℕ) (asking : Asking) (tree : Stmt) (why : BeginFault)
-      → BeginsAtOnce told faults B meanwhile asking tree own own' before now (Err why) → IsLeftRunning now why
+      → BeginsAtOnce (among told faults B meanwhile) asking tree (known own before) (known own' now) (Err why) → IsLeftRunning now why
   left-running before now own own' asking tree (hindered_by.Held by) at_once = at_once.running
   left-running before now own own' asking tree (hindered_by.Full entries) at_once = at_once.running
   left-running before now own own' asking tree (hindered_by.House why) at_once = tt
 
   -- it goes on with the session and the text once more
-  abbrev GoesOnUnbegun : ToldHouse D → ToldHouse D → ToldHouse D → List ℕ → List ℕ → List ℕ → ℕ → BeginFault → Result Opened HouseFault → List ℕ → List ℕ → Type 0
-  GoesOnUnbegun first before now own0 own own' number why result session text =
-      (said : Stmt) → Runs text said
-      → BeginsAtOnce told faults B meanwhile (record { session = session; number = number; text = text }) said own0 own first before (Err why)
-      → GoesBeginning told faults B meanwhile (record { session = session; number = number; text = text }) said own0 own' first now result
+  abbrev GoesOnUnbegun : Moment (ToldHouse D) → Moment (ToldHouse D) → Moment (ToldHouse D) → BeginFault → Result Opened HouseFault → Asking → Type 0
+  GoesOnUnbegun first before now why result asking =
+      (said : Stmt) → Runs asking.text said → BeginsAtOnce (among told faults B meanwhile) asking said first before (Err why)
+      → GoesBeginning (among told faults B meanwhile) asking said first now result
 
   pub asked-again : (first before now : ToldHouse D) (own0 own own' : List ℕ) (number : ℕ) (why : BeginFault) (result : Result Opened HouseFault)
       (session text name words : List ℕ) → name ≡ session → words ≡ text
-      → GoesOnUnbegun first before now own0 own own' number why result name words → GoesOnUnbegun first before now own0 own own' number why result session text
+      → GoesOnUnbegun (known own0 first) (known own before) (known own' now) why result (record { session = name; number = number; text = words })
+      → GoesOnUnbegun (known own0 first) (known own before) (known own' now) why result (record { session = session; number = number; text = text })
   asked-again first before now own0 own own' number why result session text name words e f goes_on =
-      subst (λ (s : List ℕ). GoesOnUnbegun first before now own0 own own' number why result s text) e
-      (subst (λ (t : List ℕ). GoesOnUnbegun first before now own0 own own' number why result name t) f goes_on)
+      subst (λ (s : List ℕ). GoesOnUnbegun (known own0 first) (known own before) (known own' now) why result
+      (record { session = s; number = number; text = text })) e
+      (subst (λ (t : List ℕ). GoesOnUnbegun (known own0 first) (known own before) (known own' now) why result
+      (record { session = name; number = number; text = t })) f goes_on)

@@ -23,7 +23,7 @@ use Rattle.hv_history.specs.declared.state.Transaction.{Transaction}
 use Rattle.hv_history.specs.State.{State, numbered, meaning, opened, after, state_of}
 use Rattle.hv_history.specs.Legal.{Of, IsMake, TouchesAreMeant, is_started, locks_of, locks_of_tree}
 use Rattle.hv_stands.specs.Laws.{changes_in}
-use Rattle.hv_stands.specs.Running.{Asking, next_number, opening, starting, IsOf, AreOf, meant, IsWaiting, IsUnderWay}
+use Rattle.hv_stands.specs.Running.{Asking, next_number, opening, starting, IsOwnCause, IsOf, AreOf, meant, IsWaiting, IsUnderWay}
 use Rattle.hv_stands.proofs.Numbers.{one_value}
 use Rattle.hv_stands.proofs.Begun.{ids-given}
 use Rattle.hv_stands.proofs.Behind.{one-behind}
@@ -33,7 +33,7 @@ use Rattle.hv_law_next.specs.Carrying.{IsUnrefused as IsUnrefusedMeaning, IsToCo
 use Rattle.hv_steps.specs.declared.ready.End.{End}
 use Rattle.hv_steps.specs.declared.ready.End.TheVariants as end
 use Rattle.hv_steps.specs.Ending.{aborting, giving, IsOneEnd, EndsUncommitted, AddsNoneOrId, AddsAbort, IsOfRows, IsAskedBy, AddsAsked, IsChangeReady, EndIsTrue}
-use Rattle.hv_steps.specs.hv_acts.specs.Meant.{IsNoEnd}
+use Rattle.hv_steps.specs.hv_table_reader.specs.hv_acts.specs.Meant.{IsNoEnd}
 use Rattle.hv_steps.proofs.Touched.{some-touched}
 use Rattle.hv_session.specs.declared.paused.Point.{Point}
 use Rattle.hv_session.specs.declared.paused.Point.TheVariants as point
@@ -53,25 +53,33 @@ all-front P (x ∷ xs) ys all = (all.0, all-front P xs ys all.1)
 
 -- ---- one entry of a started transaction
 
+-- no abort that another transaction asks for
+abbrev pub IsOwnEntry : Entry → Type 0
+IsOwnEntry (entry.Abort id why) = IsOwnCause why
+IsOwnEntry event = Unit {0}
+
 module _ (s : State) (txn : ℕ) (t : Transaction) (at : numbered s.transactions txn ≡ Some t) (begun : is_started t ≡ true) where
   of-it : (P : Transaction → Type 0) → P t → Of s txn P
   of-it P p = subst (λ (o : Option Transaction). IsSomeAnd o P) (sym at) p
 
   abort-in-order : (why : Cause) → EndsUncommitted why → IsInOrder s (aborting txn why)
   abort-in-order (cause.Conflict by_ table partition) ends = absurd ends
-  abort-in-order cause.Full ends = of-it (CauseInOrder s cause.Full) (λ unstarted. absurd (false≢true (sym unstarted ∙ begun)))
-  abort-in-order why ends = of-it (CauseInOrder s why) tt
+  abort-in-order (cause.Request by_) ends = absurd ends
+  abort-in-order cause.Full ends = of-it (CauseInOrder s txn cause.Full) (λ unstarted. absurd (false≢true (sym unstarted ∙ begun)))
+  abort-in-order why ends = of-it (CauseInOrder s txn why) tt
 
   -- a conflict is met only behind the write id of a change of rows
-  end-in-order : needs_id t.given (meaning t) ≡ false → (event : Entry) → IsOf txn event → (IsNoEnd event → ⊥) → IsInOrder s event
-  end-in-order has (entry.Abort id why) whose ends = subst (λ (n : ℕ). Of s n (CauseInOrder s why)) (sym (one_value id.0 txn whose)) (by why)
-    where
-      by : (why : Cause) → Of s txn (CauseInOrder s why)
-      by (cause.Conflict by_ table partition) = of-it (CauseInOrder s (cause.Conflict by_ table partition)) has
-      by cause.Full = of-it (CauseInOrder s cause.Full) (λ unstarted. absurd (false≢true (sym unstarted ∙ begun)))
-      by why = of-it (CauseInOrder s why) tt
-  end-in-order has (entry.Given id table write) whose ends = absurd (ends tt)
-  end-in-order has event whose ends = tt
+  cause-in-order : needs_id t.given (meaning t) ≡ false → (why : Cause) → IsOwnCause why → Of s txn (CauseInOrder s txn why)
+  cause-in-order has (cause.Conflict by_ table partition) own = of-it (CauseInOrder s txn (cause.Conflict by_ table partition)) has
+  cause-in-order has (cause.Request by_) own = absurd own
+  cause-in-order has cause.Full own = of-it (CauseInOrder s txn cause.Full) (λ unstarted. absurd (false≢true (sym unstarted ∙ begun)))
+  cause-in-order has why own = of-it (CauseInOrder s txn why) tt
+
+  end-in-order : needs_id t.given (meaning t) ≡ false → (event : Entry) → IsOf txn event → (IsNoEnd txn event → ⊥) → IsOwnEntry event → IsInOrder s event
+  end-in-order has (entry.Abort id (cause.Request by_)) whose ends owns = absurd owns
+  end-in-order has (entry.Abort id why) whose ends owns = subst (λ (n : ℕ). Of s n (CauseInOrder s n why)) (sym (one_value id.0 txn whose)) (cause-in-order has why owns)
+  end-in-order has (entry.Given id table write) whose ends owns = absurd (ends tt)
+  end-in-order has event whose ends owns = tt
 
 pub early-uncommitted : (why : Cause) → EndsEarly why → EndsUncommitted why
 early-uncommitted (cause.Refused number) early = tt
@@ -86,9 +94,10 @@ module _ (book : List Entry) (asking : Asking) (txn place : ℕ) (said : Stmt) (
   pub aborted-in-order : (why : Cause) → EndsUncommitted why → AllInOrder (state_of book) (aborting txn why ∷ [])
   aborted-in-order why ends = (abort-in-order (state_of book) txn _ under.here refl why ends, tt)
 
-  pub ended-in-order : needs_id given (meant (take place book) said) ≡ false → (added : List Entry) → AreOf txn added → IsOneEnd added → AllInOrder (state_of book) added
-  ended-in-order has added whose ends =
-      subst (AllInOrder (state_of book)) (sym ends.2) (end-in-order (state_of book) txn _ under.here refl has ends.0 (subst (AreOf txn) ends.2 whose).0 ends.1, tt)
+  pub ended-in-order : needs_id given (meant (take place book) said) ≡ false → (added : List Entry) → AreOf txn added → (ends : IsOneEnd txn added)
+      → IsOwnEntry ends.0 → AllInOrder (state_of book) added
+  ended-in-order has added whose ends owns =
+      subst (AllInOrder (state_of book)) (sym ends.2) (end-in-order (state_of book) txn _ under.here refl has ends.0 (subst (AreOf txn) ends.2 whose).0 ends.1 owns, tt)
 
 -- a write id is asked for as it means
 asks-as-meant : (table : TableId) (o : Option Meaning) (found : Meaning) → o ≡ Some found → IsOfRows table found → (needs_id [] o ≡ true) × IsOfTable table o

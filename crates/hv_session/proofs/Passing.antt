@@ -1,5 +1,6 @@
 -- One part of a statement's way behind another.
 use Rattle.std.proofs.Common.{◌≡◌, ℕ, ◌≤◌, Option, List, [], ◌++◌, Result, Ok, Err, inl, refl, sym, ap, ◌∙◌, subst, arith, append_assoc, append-nil}
+use Rattle.std.specs.Prelude.{IfErr}
 use Rattle.std.specs.List.{AllByRecursion}
 use Rattle.hv_base.specs.Faults.{Rose}
 use Rattle.hv_shelf.specs.Disk.{Store}
@@ -8,17 +9,18 @@ use Rattle.hv_history.specs.State.{State, state_of}
 use Rattle.hv_history.specs.Legal.{IsLegalFrom, profile}
 use Rattle.hv_stands.specs.Running.{Asking, next_number, IsOf, AreOf}
 use Rattle.hv_stands.specs.Statements.{AllFitting}
-use Rattle.hv_steps.specs.hv_acts.specs.hv_telling.specs.hv_house.specs.declared.fault.HouseFault.{HouseFault}
-use Rattle.hv_steps.specs.hv_acts.specs.hv_telling.specs.hv_house.specs.declared.fault.HouseFault.TheVariants as fault
-use Rattle.hv_steps.specs.hv_acts.specs.hv_telling.specs.hv_house.specs.declared.house.House.{House}
-use Rattle.hv_steps.specs.hv_acts.specs.hv_telling.specs.hv_house.specs.Faults.{FileCause, HasRisen}
-use Rattle.hv_steps.specs.hv_acts.specs.hv_telling.specs.hv_house.specs.House.{entries_of}
-use Rattle.hv_steps.specs.hv_acts.specs.hv_telling.specs.Telling.{IsWhole}
-use Rattle.hv_steps.specs.hv_acts.specs.hv_telling.proofs.Told.{told-stays}
+use Rattle.hv_steps.specs.hv_table_reader.specs.hv_acts.specs.hv_telling.specs.hv_house.specs.declared.fault.HouseFault.{HouseFault}
+use Rattle.hv_steps.specs.hv_table_reader.specs.hv_acts.specs.hv_telling.specs.hv_house.specs.declared.fault.HouseFault.TheVariants as fault
+use Rattle.hv_steps.specs.hv_table_reader.specs.hv_acts.specs.hv_telling.specs.hv_house.specs.declared.house.House.{House}
+use Rattle.hv_steps.specs.hv_table_reader.specs.hv_acts.specs.hv_telling.specs.hv_house.specs.Faults.{FileCause, HasRisen}
+use Rattle.hv_steps.specs.hv_table_reader.specs.hv_acts.specs.hv_telling.specs.hv_house.specs.House.{entries_of}
+use Rattle.hv_steps.specs.hv_table_reader.specs.hv_acts.specs.hv_telling.specs.Telling.{IsWhole}
+use Rattle.hv_steps.specs.hv_table_reader.specs.hv_acts.specs.hv_telling.proofs.Told.{told-stays}
 use Rattle.hv_steps.specs.Ending.{KeepsCount, HasStopped}
-use Rattle.hv_steps.specs.hv_acts.specs.Meant.{IsNoEnd}
+use Rattle.hv_steps.specs.hv_table_reader.specs.hv_acts.specs.Meant.{IsNoEnd}
 use Rattle.hv_session.specs.Ways.{IsDone, IsPart, IsTaking}
 use Rattle.hv_steps.proofs.Books.{all-append, all-map, IsBegun, begun-counts, begun-unended, begun-legal, counts-from, legal-from, state-behind}
+use Rattle.hv_steps.specs.Phases.{BegunBy}
 
 -- ---- counts of faults
 
@@ -75,9 +77,10 @@ module _ {D : Type 0} (told : D → Option Store) (faults : D → ℕ) (txn : �
     of_it = all-append (IsOf txn) passed.added stopped.added passed.of_it stopped.of_it;
     legal = legal-from (state_of (entries_of before)) passed.added stopped.added (begun-legal (entries_of before) passed.added fits-behind passed.begun)
         (subst (λ (s : State). IsLegalFrom profile s stopped.added) (ap state_of passed.book ∙ state-behind (entries_of before) passed.added) stopped.legal);
-    unended = all-append IsNoEnd passed.added stopped.added (all-map IsBegun IsNoEnd begun-unended passed.added passed.begun) stopped.unended;
+    unended = all-append (IsNoEnd txn) passed.added stopped.added (all-map IsBegun (IsNoEnd txn) (begun-unended txn) passed.added passed.begun) stopped.unended;
     further = stopped.further;
     further_of_it = stopped.further_of_it;
+    unopened = stopped.unopened;
     few = stopped.few;
     fit = stopped.fit;
     leaves = stopped.leaves;
@@ -123,13 +126,23 @@ passed-part told faults txn before now x passed = record {
 
 -- ---- a part of taking up a statement
 
+-- whatever was added begins with the Opened of the statement
+abbrev pub Begins : {D : Type 0} → Asking → House D → House D → HouseFault → Type 0
+Begins asking before now why = (added : List Entry) → entries_of now ≡ entries_of before ++ added → BegunBy asking added
+
 module _ {D T : Type 0} (told : D → Option Store) (faults : D → ℕ) (asking : Asking) (before now : House D) where
-  pub part-taking : (result : Result T HouseFault) → IsPart told faults (next_number (entries_of before)) before now result
+  pub part-taking : (result : Result T HouseFault) → IsPart told faults (next_number (entries_of before)) before now result → IfErr result (Begins asking before now)
       → IsTaking told faults asking before now result
-  part-taking (Ok x) part =
+  part-taking (Ok x) part begins =
       record { done = part.done; start = part.start; stopped = tt; opens = λ is. tt; ends = tt; cause = part.cause }
-  part-taking (Err why) part =
-      record { done = tt; start = part.start; stopped = inl part.stopped; opens = part.opens; ends = part.ends; cause = part.cause }
+  part-taking (Err why) part begins = record {
+    done = tt;
+    start = part.start;
+    stopped = inl (part.stopped, begins part.stopped.added part.stopped.book);
+    opens = part.opens;
+    ends = part.ends;
+    cause = part.cause;
+  }
 
   pub taking-ok : {U : Type 0} (x : U) (y : T) → IsTaking told faults asking before now (Ok x) → IsTaking told faults asking before now (Ok y)
   taking-ok x y taking = record {

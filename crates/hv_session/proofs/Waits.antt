@@ -1,5 +1,5 @@
 -- A statement that was opened waits while it has neither started nor ended, in a book that fits: no entry but its Start and its end changes it.
-use Rattle.std.proofs.Common.{◌≡◌, ℕ, ◌==◌, Bool, true, false, cond, Option, Some, None, List, [], ◌∷◌, ◌++◌, fold, refl, sym, ap, ◌∙◌, subst}
+use Rattle.std.proofs.Common.{◌≡◌, ℕ, ◌==◌, Bool, true, false, cond, Option, Some, None, List, [], ◌∷◌, ◌++◌, fold, refl, sym, ap, ◌∙◌, subst, length}
 use Rattle.std.specs.Prelude.{IsSomeAnd, IsTrue, IsFalse, is_some}
 use Rattle.std.proofs.lemmas.List.Sums.{fold-append}
 use Rattle.hv_base.specs.declared.ids.Limits.{Limits}
@@ -23,8 +23,8 @@ use Rattle.hv_trail.specs.Trail.{book_of, state_at}
 use Rattle.hv_trail.proofs.LastingLaws.{book-append}
 use Rattle.hv_trail.proofs.KeptLaws.{trail-book}
 use Rattle.hv_shelf.specs.Disk.{Store}
-use Rattle.hv_steps.specs.hv_acts.specs.declared.told.ToldHouse.{ToldHouse}
-use Rattle.hv_steps.specs.hv_acts.specs.Told.{IsWholeOrClosed, book_in}
+use Rattle.hv_steps.specs.hv_table_reader.specs.hv_acts.specs.declared.told.ToldHouse.{ToldHouse}
+use Rattle.hv_steps.specs.hv_table_reader.specs.hv_acts.specs.Told.{IsWholeOrClosed, book_in}
 use Rattle.hv_steps.specs.Going.{IsOpenHouse, HasWaited}
 
 some-first : (o : Option Snapshot) (s : Snapshot) → first_of o s ≡ None → ⊥
@@ -51,7 +51,7 @@ module _ (session : List ℕ) (number : ℕ) (text : List ℕ) where
 
   start-waits : (state : State) (n : ℕ) (t : Transaction) → Waits (started state n t)
   start-waits state n t =
-      record { is = λ unended unstarted. absurd (some-first t.snapshot (record { place = state.entries; tables = state.tables }) unstarted) }
+      record { is = λ unended unstarted. absurd (some-first t.snapshot (record { place = state.entries; tables = state.tables; opened = length state.transactions }) unstarted) }
 
   end-waits : (ending : Ending) (t : Transaction) → Waits (ended ending t)
   end-waits ending t = record { is = λ unended unstarted. let never : Some ending ≡ None = unended in cc }

@@ -9,11 +9,11 @@ use Rattle.hv_history.specs.declared.entry.Cause.{Cause}
 use Rattle.hv_history.specs.declared.entry.Cause.TheVariants as cause
 use Rattle.hv_stands.specs.Running.{Asking, meant, IsUnderWay, IsWaiting}
 use Rattle.hv_trail.specs.declared.trail.TrailItem.{TrailItem}
-use Rattle.hv_steps.specs.hv_acts.specs.hv_telling.specs.hv_house.specs.declared.fault.HouseFault.{HouseFault}
-use Rattle.hv_steps.specs.hv_acts.specs.hv_telling.specs.hv_house.specs.House.{entries_of}
-use Rattle.hv_steps.specs.hv_acts.specs.hv_telling.specs.Telling.{IsToldHouse, IsWhole, StillOpens}
-use Rattle.hv_steps.specs.hv_acts.specs.declared.told.ToldHouse.{ToldHouse}
-use Rattle.hv_steps.specs.hv_acts.specs.Told.{IsWholeOrClosed}
+use Rattle.hv_steps.specs.hv_table_reader.specs.hv_acts.specs.hv_telling.specs.hv_house.specs.declared.fault.HouseFault.{HouseFault}
+use Rattle.hv_steps.specs.hv_table_reader.specs.hv_acts.specs.hv_telling.specs.hv_house.specs.House.{entries_of}
+use Rattle.hv_steps.specs.hv_table_reader.specs.hv_acts.specs.hv_telling.specs.Telling.{IsToldHouse, IsWhole, StillOpens}
+use Rattle.hv_steps.specs.hv_table_reader.specs.hv_acts.specs.declared.told.ToldHouse.{ToldHouse}
+use Rattle.hv_steps.specs.hv_table_reader.specs.hv_acts.specs.Told.{IsWholeOrClosed}
 use Rattle.hv_steps.specs.Ending.{aborting, IsAborted, HasReplied, HasStopped, NamesLast, EndedNamesLast, AddsAsked, CanEnd, IsPreparedIn, IsTrulyPrepared}
 use Rattle.hv_steps.specs.Ending as ending
 use Rattle.hv_steps.specs.declared.ready.Reply.{Reply}
@@ -26,6 +26,7 @@ use Rattle.hv_steps.specs.declared.reply.Outcome.TheVariants as outcome
 use Rattle.hv_steps.specs.declared.reply.Prepared.{Prepared}
 use Rattle.hv_steps.specs.Going.{faults_in, IsOpenHouse, AddsOwn, Gains, Halts}
 use Rattle.hv_steps.specs.Phases.{AbortsFor, IsUntoldDamage, Sees, Concludes, Prepares, AnswersTruly}
+use Rattle.hv_actor.specs.Acting.{among, known}
 
 -- others add nothing between
 abbrev pub AddsNothing : (List TrailItem → Type 0) → Type 0
@@ -41,7 +42,9 @@ pub record HasGained {D : Type 0} (faults : D → ℕ) (before now : ToldHouse D
 
 abbrev pub AddsAlone : {D : Type 0} → (D → ℕ) → (List TrailItem → Type 0) → Type 0
 AddsAlone {D = D} faults between =
-    (own own' : List ℕ) (before now : ToldHouse D) (added : List Entry) → AddsOwn faults between own own' before now added → HasGained faults before now added
+    (by : ℕ) (own own' : List ℕ) (before now : ToldHouse D) (added : List Entry)
+    → AddsOwn faults between by (known own before) (known own' now) added
+    → HasGained faults before now added
 
 abbrev pub OpenIsWhole : {D : Type 0} → (D → Option Store) → Type 0
 OpenIsWhole {D = D} told = (now : ToldHouse D) → IsOpenHouse now → IsWholeOrClosed told now.house → IsWhole told now.house
@@ -51,12 +54,14 @@ OpenIsWhole {D = D} told = (now : ToldHouse D) → IsOpenHouse now → IsWholeOr
 abbrev pub StopsAlone : {D : Type 0} → (D → Option Store) → (D → ℕ) → (List TrailItem → Type 0) → (ToldHouse D → ToldHouse D → Type 0) → Type 0
 StopsAlone {D = D} told faults between meanwhile =
     (txn : ℕ) (own own' : List ℕ) (before now : ToldHouse D) (why : HouseFault) → IsWholeOrClosed told now.house
-    → Halts told faults between meanwhile txn own own' before now why → HasStopped told txn why before.house now.house
+    → Halts (among told faults between meanwhile) txn (known own before) (known own' now) why
+    → HasStopped told txn why before.house now.house
 
 abbrev pub OpensAlone : {D : Type 0} → (D → Option Store) → (D → ℕ) → (List TrailItem → Type 0) → (ToldHouse D → ToldHouse D → Type 0) → Type 0
 OpensAlone {D = D} told faults between meanwhile =
     (txn : ℕ) (own own' : List ℕ) (before now : ToldHouse D) (why : HouseFault) → IsWholeOrClosed told now.house
-    → Halts told faults between meanwhile txn own own' before now why → IsToldHouse told before.house → StillOpens told now.house
+    → Halts (among told faults between meanwhile) txn (known own before) (known own' now) why
+    → IsToldHouse told before.house → StillOpens told now.house
 
 -- ---- an abort
 
@@ -81,7 +86,8 @@ abbrev pub RefusesAlone : {D : Type 0} → (D → Option Store) → (D → ℕ) 
 RefusesAlone {D = D} told faults between =
     (asking : Asking) (said : Stmt) (place : ℕ) (given : List (ℕ × ℕ)) (low txn : ℕ) (own own' : List ℕ) (before now : ToldHouse D) (why : Cause) (found : Done)
     → IsUnderWay (entries_of before.house) asking txn place said given → IsWholeOrClosed told now.house
-    → Gains faults between low txn own own' before now (AbortsFor txn now [] (λ cause. cause ≡ why) found)
+    → Gains faults between low txn (known own before) (known own' now)
+    (AbortsFor txn now [] (λ cause. cause ≡ why) found)
     → IsRefusedAlone txn why before now found
 
 -- one that waits for its Start isn't ended by others either
@@ -89,7 +95,8 @@ abbrev pub RefusesWaiting : {D : Type 0} → (D → Option Store) → (D → ℕ
 RefusesWaiting {D = D} told faults between =
     (asking : Asking) (said : Stmt) (low txn : ℕ) (own own' : List ℕ) (before now : ToldHouse D) (why : Cause) (found : Done)
     → IsWaiting (entries_of before.house) asking txn said → IsWholeOrClosed told now.house
-    → Gains faults between low txn own own' before now (AbortsFor txn now [] (λ cause. cause ≡ why) found)
+    → Gains faults between low txn (known own before) (known own' now)
+    (AbortsFor txn now [] (λ cause. cause ≡ why) found)
     → IsRefusedAlone txn why before now found
 
 -- ---- what it sees
@@ -105,7 +112,8 @@ abbrev pub SeesAlone : {D : Type 0} → (D → Option Store) → (D → ℕ) →
 SeesAlone {D = D} told faults between =
     (asking : Asking) (said : Stmt) (way : Way) (low : ℕ) (own own' : List ℕ) (before now : ToldHouse D) (found : Outcome)
     → IsUnderWay (entries_of before.house) asking way.txn.0 way.place said [] → IsWholeOrClosed told now.house
-    → Gains faults between low way.txn.0 own own' before now (Sees told now way said found) → SeesSo told way said before now found
+    → Gains faults between low way.txn.0 (known own before) (known own' now) (Sees told now way said found)
+    → SeesSo told way said before now found
 
 -- ---- its end
 
@@ -121,18 +129,28 @@ abbrev pub ConcludesAlone : {D : Type 0} → (D → Option Store) → (D → ℕ
 ConcludesAlone {D = D} told faults between =
     (asking : Asking) (said : Stmt) (place : ℕ) (given : List (ℕ × ℕ)) (low txn : ℕ) (own own' : List ℕ) (before now : ToldHouse D) (ready : Ready) (found : Done)
     → IsUnderWay (entries_of before.house) asking txn place said given → IsWholeOrClosed told now.house
-    → Gains faults between low txn own own' before now (Concludes txn now ready found)
+    → Gains faults between low txn (known own before) (known own' now) (Concludes txn now ready found)
     → IsConcludedAlone faults txn low before now found
 
 -- ---- all but its end
 
+-- a started statement: who asks for it, its tree, and its way
+pub record OnItsWay : Type 0 where
+  pub asking : Asking
+  pub said : Stmt
+  pub way : Way
+
+abbrev pub on_its_way : Asking → Stmt → Way → OnItsWay
+on_its_way asking said way = record { asking = asking; said = said; way = way }
+
 -- it is ready, and can be ended behind what was noted for it; or it has ended, by the book's last entry, and this is its answer
-pub record IsPreparedAlone {D : Type 0} (faults : D → ℕ) (asking : Asking) (said : Stmt) (way : Way) (meaning : Meaning) (before now : ToldHouse D)
+pub record IsPreparedAlone {D : Type 0} (faults : D → ℕ) (one : OnItsWay) (meaning : Meaning) (before now : ToldHouse D)
     (found : Prepared) : Type 0 where
-  pub prepares : ending.Prepares way.txn.0 (faults_in faults before) (faults_in faults now) (entries_of before.house) (entries_of now.house) found
-  pub stands : IsPreparedIn (entries_of now.house) asking way.txn.0 way.place said found
-  pub truly : meant (take way.place (entries_of before.house)) said ≡ Some meaning
-      → IsTrulyPrepared (entries_of now.house) asking way.txn.0 way.place said found
+  pub prepares : ending.Prepares one.way.txn.0 (faults_in faults before) (faults_in faults now)
+      (entries_of before.house) (entries_of now.house) found
+  pub stands : IsPreparedIn (entries_of now.house) one.asking one.way.txn.0 one.way.place one.said found
+  pub truly : meant (take one.way.place (entries_of before.house)) one.said ≡ Some meaning
+      → IsTrulyPrepared (entries_of now.house) one.asking one.way.txn.0 one.way.place one.said found
   pub last : EndedNamesLast (entries_of now.house) found
   pub asked : AddsAsked meaning (entries_of before.house) (entries_of now.house)
 
@@ -141,5 +159,6 @@ PreparesAlone {D = D} told faults between =
     (asking : Asking) (said : Stmt) (way : Way) (own own' : List ℕ) (before now : ToldHouse D) (meaning : Meaning) (found : Prepared)
     → IsUnderWay (entries_of before.house) asking way.txn.0 way.place said [] → CanEnd (entries_of before.house) meaning
     → IsWholeOrClosed told now.house
-    → Gains faults between (faults_in faults before) way.txn.0 own own' before now (Prepares way.txn.0 now meaning found)
-    → IsPreparedAlone faults asking said way meaning before now found
+    → Gains faults between (faults_in faults before) way.txn.0 (known own before) (known own' now)
+    (Prepares way.txn.0 now meaning found)
+    → IsPreparedAlone faults (on_its_way asking said way) meaning before now found

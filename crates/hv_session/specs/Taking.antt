@@ -1,31 +1,28 @@
 -- How a statement is taken up, held and ended, beside others that are open: what is added to the book, and what is replied.
 -- Source: Hive Transactions (snapshots, locks, first committer wins); where a statement may be held is this project's profile.
-use Rattle.std.specs.Prelude.{◌≡◌, ◌⊎◌, ℕ, ◌+◌, ◌<◌, Bool, true, Option, Some, None, List, [], ◌∷◌, ◌++◌, take}
+use Rattle.std.specs.Prelude.{◌≡◌, ◌⊎◌, ℕ, ◌+◌, ◌<◌, Bool, true, Option, Some, None, List, [], ◌∷◌, ◌++◌, length, take}
 use Rattle.std.specs.List.{AllByRecursion}
 use Rattle.hv_base.specs.declared.gate.Stage.{Stage}
 use Rattle.hv_base.specs.declared.gate.Stage.TheVariants as stage
-use Rattle.hv_base.specs.declared.ids.TableId.{TableId}
-use Rattle.hv_base.specs.declared.ids.WriteId.{WriteId}
 use Rattle.hv_ast.specs.declared.statement.Stmt.{Stmt}
 use Rattle.hv_built.specs.Running.{Runs}
 use Rattle.hv_logic.specs.declared.meaning.Meaning.{Meaning}
-use Rattle.hv_logic.specs.declared.meaning.Meaning.TheVariants.{Refused}
 use Rattle.hv_history.specs.declared.entry.Entry.{Entry}
 use Rattle.hv_history.specs.declared.entry.Entry.TheVariants as entry
 use Rattle.hv_history.specs.declared.entry.Cause.{Cause}
 use Rattle.hv_history.specs.declared.entry.Cause.TheVariants as cause
+use Rattle.hv_history.specs.declared.state.Ending.TheVariants.{Aborted}
 use Rattle.hv_history.specs.State.{meaning, state_of}
-use Rattle.hv_history.specs.Legal.{Of, load, profile}
+use Rattle.hv_history.specs.Legal.{Of, HasAsked, load, profile}
 use Rattle.hv_history.specs.Answers.{cause_text}
 use Rattle.hv_stands.specs.Running.{Asking, next_number, opening, starting, AreOf, meant, IsUnderWay}
 use Rattle.hv_law_next.specs.Order.{AllInOrder}
-use Rattle.hv_law_next.specs.Carrying.{IsAtHold}
-use Rattle.hv_steps.specs.Ending.{IsUndamaged, EndsUncommitted, CanEnd, EndCanBeNoted, EndIsTrue, aborting, HasReplied}
-use Rattle.hv_steps.specs.hv_acts.specs.hv_telling.specs.hv_house.specs.Asking.{holder_against, CanBegin}
+use Rattle.hv_law_next.specs.Carrying.{IsAtHold, HasAskedAt}
+use Rattle.hv_steps.specs.Ending.{IsUndamaged, IsAskBy, AddsNoneOrId, AddsAbort, CanEnd, EndCanBeNoted, EndIsTrue, aborting, asking_for, HasReplied}
+use Rattle.hv_steps.specs.hv_table_reader.specs.hv_acts.specs.hv_telling.specs.hv_house.specs.Asking.{holder_against, CanBegin}
 use Rattle.hv_session.specs.Doing.{IsUnrefused}
 use Rattle.hv_session.specs.Faults.{IsFaultLine}
 use Rattle.hv_session.specs.declared.asking.Asking.{Asking as Handed}
-use Rattle.hv_steps.specs.declared.reply.Done.TheVariants as done
 use Rattle.hv_session.specs.declared.paused.Point.{Point}
 use Rattle.hv_session.specs.declared.paused.Point.TheVariants as point
 use Rattle.hv_session.specs.declared.paused.Paused.{Paused}
@@ -73,32 +70,32 @@ abbrev pub AbortedAtOnce : ℕ → (Cause → Type 0) → List Entry → Type 0
 AbortedAtOnce txn P added =
     (why : Cause) × P why × (added ≡ entry.Start (record { 0 = txn }) 0 ∷ entry.Abort (record { 0 = txn }) why ∷ [])
 
--- or behind its write id
-abbrev pub AbortedGiven : ℕ → (Cause → Type 0) → List Entry → Type 0
-AbortedGiven txn P added =
-    (why : Cause) × (table : TableId) × (write : WriteId) × P why
-    × (added ≡ entry.Start (record { 0 = txn }) 0 ∷ entry.Given (record { 0 = txn }) table write ∷ entry.Abort (record { 0 = txn }) why ∷ [])
+-- or behind what it asked for, and its write id
+abbrev pub AbortedBehind : ℕ → List Entry → Type 0
+AbortedBehind txn added =
+    (asks : List Entry) × (more : List Entry) × AllByRecursion (IsAskBy txn) asks × AddsAbort txn more × (added ≡ starting txn ∷ (asks ++ more))
 
 -- what may stand behind the Opened of a statement that ended before the place where it was to be held
 abbrev pub EndsBefore : Option Stage → ℕ → List Entry → Type 0
 EndsBefore None txn added = Unit {0}
 EndsBefore (Some stage.Start) txn added = NeverStarted txn added
 EndsBefore (Some stage.Read) txn added = NeverStarted txn added ⊎ AbortedAtOnce txn EndsEarly added
-EndsBefore (Some stage.Commit) txn added = NeverStarted txn added ⊎ AbortedAtOnce txn EndsUncommitted added ⊎ AbortedGiven txn EndsUncommitted added
+EndsBefore (Some stage.Commit) txn added = NeverStarted txn added ⊎ AbortedBehind txn added
 EndsBefore (Some other) txn added = ⊥
 
 abbrev pub HasJustStarted : ℕ → List Entry → Type 0
 HasJustStarted txn added = added ≡ entry.Start (record { 0 = txn }) 0 ∷ []
 
-abbrev pub HasItsId : ℕ → List Entry → Type 0
-HasItsId txn added =
-    (table : TableId) × (write : WriteId) × (added ≡ entry.Start (record { 0 = txn }) 0 ∷ entry.Given (record { 0 = txn }) table write ∷ [])
+-- it has asked for the aborts that its text lists, and has its write id where it needs one
+abbrev pub HasReadied : ℕ → List Entry → Type 0
+HasReadied txn added =
+    (asks : List Entry) × (first : List Entry) × AllByRecursion (IsAskBy txn) asks × AddsNoneOrId txn first × (added ≡ starting txn ∷ (asks ++ first))
 
 -- and behind that of one that is held
 abbrev pub HoldsAt : Option Stage → ℕ → List Entry → Type 0
 HoldsAt (Some stage.Start) txn added = HasJustStarted txn added
 HoldsAt (Some stage.Read) txn added = HasJustStarted txn added
-HoldsAt (Some stage.Commit) txn added = HasJustStarted txn added ⊎ HasItsId txn added
+HoldsAt (Some stage.Commit) txn added = HasReadied txn added
 HoldsAt other txn added = ⊥
 
 -- ---- a statement that is held
@@ -140,11 +137,25 @@ PointIsTrue meaning given point.Started = Unit {0}
 PointIsTrue meaning given (point.Meant found) = meaning ≡ Some found
 PointIsTrue meaning given (point.Ready ready) = EndIsTrue meaning given ready.end ready.text
 
+-- where it is ready it has asked for all aborts that its text lists
+abbrev pub HasAskedAtPoint : List Entry → ℕ → Point → Type 0
+HasAskedAtPoint book txn (point.Ready ready) = Of (state_of book) txn (λ transaction. HasAsked (state_of book) txn transaction (meaning transaction))
+HasAskedAtPoint book txn other = Unit {0}
+
 -- and, in a told house, it has come to what its text means
 pub record IsTrulyHeld (book : List Entry) (paused : Paused) : Type 0 where
   pub asking : Asking
   pub held : IsHeld book asking paused
   pub truly : PointIsTrue (meant (take paused.way.place book) paused.tree) held.given paused.point
+  pub asked : HasAskedAtPoint book paused.way.txn.0 paused.point
+
+-- another statement has asked for the abort of this transaction, by the entry that stands here
+pub record WasStopped (book : List Entry) (txn : ℕ) : Type 0 where
+  pub by : ℕ
+  pub front : List Entry
+  pub rest : List Entry
+  pub book_is : book ≡ front ++ asking_for by txn ∷ rest
+  pub ended : Of (state_of book) txn (λ t. t.ending ≡ Some (Aborted (length front) (cause.Request (record { 0 = by }))))
 
 -- ---- what a statement that was taken up comes to, in a told house
 
@@ -199,17 +210,16 @@ pub record IsKept (before now : List Entry) (asking : Asking) (hold : Option Sta
   pub at_hold : HoldsAt hold (next_number before) added
   pub truly : IsTrulyHeld now paused
   pub in_order : AllInOrder (state_of before) (opening before asking ∷ added)
-  pub up_to_hold : Of (state_of now) (next_number before) (λ transaction. IsAtHold hold transaction.given (meaning transaction))
+  pub up_to_hold : Of (state_of now) (next_number before)
+      (λ transaction. IsAtHold hold transaction.given (meaning transaction) × HasAskedAt hold (state_of now) (next_number before) transaction)
 
 abbrev pub IsTakenAs : List Entry → List Entry → Asking → Option Stage → Taken → Type 0
-IsTakenAs before now asking hold (taken.Ended (done.Replied reply)) = IsReplied before now asking hold reply.text reply.refused reply.ended
-IsTakenAs before now asking hold (taken.Ended (done.Gone at)) = ⊥
+IsTakenAs before now asking hold (taken.Replied reply) = IsReplied before now asking hold reply.text reply.refused reply.ended
 IsTakenAs before now asking hold (taken.Kept paused) = IsKept before now asking hold paused
 
 -- what stands of one that is held whatever is told
 abbrev pub IsKeptIn : List Entry → List Entry → Asking → Taken → Type 0
-IsKeptIn before now asking (taken.Ended (done.Replied reply)) = Unit {0}
-IsKeptIn before now asking (taken.Ended (done.Gone at)) = ⊥
+IsKeptIn before now asking (taken.Replied reply) = Unit {0}
 IsKeptIn before now asking (taken.Kept paused) = (paused.way.txn.0 ≡ next_number before) × IsHeld now asking paused
 
 -- a started statement went on to its end, by entries of it alone, in order, none of which says that a file is damaged

@@ -1,26 +1,26 @@
 -- What a part of a statement's way comes to where nobody else acts on the house: what is noted by it, and what stands behind it.
 -- Source: Hive Transactions; that each act is one hold of the house is this project's profile.
-use Rattle.std.specs.Prelude.{◌≡◌, ◌⊎◌, ℕ, ◌+◌, ◌<◌, ◌≤◌, Option, Some, List, [], ◌∷◌, ◌++◌, length, take, Result, Err, IfOk, IfErr}
+use Rattle.std.specs.Prelude.{◌≡◌, ◌⊎◌, ℕ, ◌+◌, ◌<◌, Option, List, [], ◌∷◌, ◌++◌, length, Result, Err, IfOk, IfErr}
 use Rattle.hv_base.specs.declared.gate.Stage.{Stage}
 use Rattle.hv_shelf.specs.Disk.{Store}
 use Rattle.hv_ast.specs.declared.statement.Stmt.{Stmt}
-use Rattle.hv_logic.specs.declared.meaning.Meaning.{Meaning}
 use Rattle.hv_history.specs.declared.entry.Entry.{Entry}
 use Rattle.hv_history.specs.declared.entry.Cause.{Cause}
 use Rattle.hv_history.specs.State.{state_of}
-use Rattle.hv_history.specs.Legal.{load, profile}
-use Rattle.hv_stands.specs.Running.{Asking, next_number, opening, starting, meant, IsUnderWay}
+use Rattle.hv_history.specs.Legal.{Fits, load, profile}
+use Rattle.hv_stands.specs.Running.{Asking, next_number, opening, starting, IsUnderWay}
 use Rattle.hv_trail.specs.declared.trail.TrailItem.{TrailItem}
 use Rattle.hv_law_next.specs.Order.{AllInOrder}
-use Rattle.hv_actor.specs.Acting.{IsAlone}
-use Rattle.hv_steps.specs.hv_acts.specs.hv_telling.specs.hv_house.specs.declared.fault.HouseFault.{HouseFault}
-use Rattle.hv_steps.specs.hv_acts.specs.hv_telling.specs.hv_house.specs.declared.house.House.{House}
-use Rattle.hv_steps.specs.hv_acts.specs.hv_telling.specs.hv_house.specs.Faults.{FileCause, EndsRun}
-use Rattle.hv_steps.specs.hv_acts.specs.hv_telling.specs.hv_house.specs.House.{entries_of, Leaves, BeginFits, beginning_of}
-use Rattle.hv_steps.specs.hv_acts.specs.hv_telling.specs.hv_house.specs.Asking.{CanBegin}
-use Rattle.hv_steps.specs.hv_acts.specs.hv_telling.specs.Telling.{IsWhole, IsToldHouse, StillOpens}
-use Rattle.hv_steps.specs.hv_acts.specs.declared.told.ToldHouse.{ToldHouse}
-use Rattle.hv_steps.specs.hv_acts.specs.Told.{IsWholeOrClosed}
+use Rattle.hv_actor.specs.Acting.{IsAlone, among, known}
+use Rattle.hv_steps.specs.hv_table_reader.specs.hv_acts.specs.hv_telling.specs.hv_house.specs.declared.fault.HouseFault.{HouseFault}
+use Rattle.hv_steps.specs.hv_table_reader.specs.hv_acts.specs.hv_telling.specs.hv_house.specs.declared.house.House.{House}
+use Rattle.hv_steps.specs.hv_table_reader.specs.hv_acts.specs.hv_telling.specs.hv_house.specs.Faults.{FileCause, EndsRun}
+use Rattle.hv_steps.specs.hv_table_reader.specs.hv_acts.specs.hv_telling.specs.hv_house.specs.House.{entries_of, Leaves, BeginFits, beginning_of}
+use Rattle.hv_steps.specs.hv_table_reader.specs.hv_acts.specs.hv_telling.specs.hv_house.specs.Asking.{CanBegin}
+use Rattle.hv_steps.specs.hv_table_reader.specs.hv_acts.specs.hv_telling.specs.Telling.{IsWhole, IsToldHouse, StillOpens}
+use Rattle.hv_steps.specs.hv_table_reader.specs.hv_acts.specs.declared.told.ToldHouse.{ToldHouse}
+use Rattle.hv_steps.specs.hv_table_reader.specs.hv_acts.specs.Told.{IsWholeOrClosed}
+use Rattle.hv_steps.specs.declared.ready.Reply.{Reply}
 use Rattle.hv_steps.specs.declared.ready.Way.{Way}
 use Rattle.hv_steps.specs.declared.reply.Done.{Done}
 use Rattle.hv_steps.specs.declared.reply.Done.TheVariants as done
@@ -32,7 +32,8 @@ use Rattle.hv_session.specs.declared.paused.Taken.{Taken}
 use Rattle.hv_steps.specs.Ending.{AddsOf, HasStopped, HasReplied, IsUndamaged, aborting}
 use Rattle.hv_session.specs.Alone.{AddsNothing}
 use Rattle.hv_steps.specs.Going.{IsOpenHouse, faults_in, Goes, GainsSome}
-use Rattle.hv_steps.specs.Phases.{Begins, HaltsBeginning}
+use Rattle.hv_steps.specs.Phases.{Begins, HaltsBeginning, BegunBy}
+use Rattle.hv_session.specs.Doing.{Course}
 use Rattle.hv_session.specs.Taking.{EndsBefore, HoldsAt, IsAtPlace, IsHeld, IsTrulyHeld, WentThrough, IsKept, IsKeptIn, IsTakenAs, IsFinished, IsWhyNot}
 
 -- nobody else acts on the house: others add nothing to its trail, and do nothing to it
@@ -60,27 +61,31 @@ pub record IsPart {D T : Type 0} (told : D → Option Store) (faults : D → ℕ
 abbrev pub IsOnWay : List Entry → Way → Stmt → Type 0
 IsOnWay book way said = (asking : Asking) × IsUnderWay book asking way.txn.0 way.place said []
 
--- and in a told house it means this
-abbrev pub IsOnWayAs : {D : Type 0} → (D → Option Store) → House D → Way → Meaning → Type 0
-IsOnWayAs told house way meaning =
-    (said : Stmt) × IsOnWay (entries_of house) way said × (IsToldHouse told house → meant (take way.place (entries_of house)) said ≡ Some meaning)
-
 -- ---- a started statement that ends
 
 -- nobody else ended it
 abbrev pub IsOwnEnd : Done → Type 0
 IsOwnEnd (done.Replied reply) = Unit {0}
-IsOwnEnd (done.Gone at) = ⊥
+IsOwnEnd (done.Gone reply) = ⊥
 
 abbrev pub IsFinishedAs : List Entry → List Entry → ℕ → Done → Type 0
 IsFinishedAs before now txn (done.Replied reply) = IsFinished before now txn reply.text reply.refused reply.ended
-IsFinishedAs before now txn (done.Gone at) = ⊥
+IsFinishedAs before now txn (done.Gone reply) = ⊥
 
 -- all that is promised of one that was to end; in a told house as its text means
 pub record EndsAlone {D : Type 0} (told : D → Option Store) (faults : D → ℕ) (txn : ℕ) (before now : House D) (result : Result Done HouseFault) : Type 0 where
   pub part : IsPart told faults txn before now result
   pub own : IfOk result IsOwnEnd
   pub truly : IsToldHouse told before → IfOk result (IsFinishedAs (entries_of before) (entries_of now) txn)
+
+-- and what it replies
+abbrev pub IsFinishedSo : List Entry → List Entry → ℕ → Reply → Type 0
+IsFinishedSo before now txn reply = IsFinished before now txn reply.text reply.refused reply.ended
+
+-- all that is promised of one that was held, and that another statement may have stopped
+pub record FinishesAlone {D : Type 0} (told : D → Option Store) (faults : D → ℕ) (txn : ℕ) (before now : House D) (result : Result Reply HouseFault) : Type 0 where
+  pub part : IsPart told faults txn before now result
+  pub truly : IsToldHouse told before → IfOk result (IsFinishedSo (entries_of before) (entries_of now) txn)
 
 -- ---- where it is held
 
@@ -112,11 +117,13 @@ StandsTruly before now txn (carried.Full entries) = ⊥
 StandsTruly before now txn carried.NoMemory = ⊥
 
 -- all that is promised of a started statement that was to go on to its end or its hold
-pub record GoesAlone {D : Type 0} (told : D → Option Store) (faults : D → ℕ) (way : Way) (said : Stmt) (hold : Option Stage) (before now : House D)
+pub record GoesAlone {D : Type 0} (told : D → Option Store) (faults : D → ℕ) (way : Way) (course : Course)
+    (before now : House D)
     (result : Result Carried HouseFault) : Type 0 where
   pub part : IsPart told faults way.txn.0 before now result
-  pub goes : IfOk result (GoesInTime hold way.txn.0 (entries_of before) (entries_of now))
-  pub stands : (asking : Asking) → IsUnderWay (entries_of before) asking way.txn.0 way.place said [] → IfOk result (StandsHeld (entries_of now) asking)
+  pub goes : IfOk result (GoesInTime course.hold way.txn.0 (entries_of before) (entries_of now))
+  pub stands : (asking : Asking) → IsUnderWay (entries_of before) asking way.txn.0 way.place course.said []
+      → IfOk result (StandsHeld (entries_of now) asking)
   pub truly : IsToldHouse told before → IfOk result (StandsTruly (entries_of before) (entries_of now) way.txn.0)
 
 -- ---- its beginning
@@ -140,7 +147,7 @@ pub record IsTurnedAway (before now : List Entry) (asking : Asking) (said : Stmt
 -- and that is its answer
 abbrev pub IsAnswered : List Entry → ℕ → Done → Type 0
 IsAnswered now txn (done.Replied reply) = HasReplied now txn reply.text reply.refused reply.ended
-IsAnswered now txn (done.Gone at) = ⊥
+IsAnswered now txn (done.Gone reply) = ⊥
 
 -- there is no room for its opening and its end
 pub record IsUnopened (before now : List Entry) : Type 0 where
@@ -160,9 +167,17 @@ pub record StopsAtBeginning {D : Type 0} (told : D → Option Store) (asking : A
   pub fits : BeginFits (entries_of before) asking
   pub leaves : Leaves why (beginning_of (entries_of before) asking) (told now.shelf) (entries_of now)
 
+-- It stopped where the statement was to be opened alone: the journal reads to the book, or where the store failed, to the book or to it with
+-- the Opened, which fits.
+pub record StopsAtOpening {D : Type 0} (told : D → Option Store) (asking : Asking) (why : HouseFault) (before now : House D) : Type 0 where
+  pub book : entries_of now ≡ entries_of before
+  pub fits : Fits profile (state_of (entries_of before)) (opening (entries_of before) asking)
+  pub leaves : Leaves why (opening (entries_of before) asking ∷ []) (told now.shelf) (entries_of now)
+
 abbrev pub StopsTaken : {D : Type 0} → (D → Option Store) → Asking → HouseFault → House D → House D → Type 0
 StopsTaken told asking why before now =
-    HasStopped told (next_number (entries_of before)) why before now ⊎ StopsAtBeginning told asking why before now
+    ((stopped : HasStopped told (next_number (entries_of before)) why before now) × BegunBy asking stopped.added)
+    ⊎ StopsAtBeginning told asking why before now ⊎ StopsAtOpening told asking why before now
 
 -- ---- one that is taken up
 
@@ -185,7 +200,7 @@ IsCarriedIn before now asking carried.NoMemory = now ≡ before
 -- and in a told house
 abbrev pub EndsThrough : List Entry → List Entry → Asking → Option Stage → Done → Type 0
 EndsThrough before now asking hold (done.Replied reply) = WentThrough before now asking hold reply.text reply.refused reply.ended
-EndsThrough before now asking hold (done.Gone at) = ⊥
+EndsThrough before now asking hold (done.Gone reply) = ⊥
 
 abbrev pub IsCarriedAs : List Entry → List Entry → Asking → Option Stage → Carried → Type 0
 IsCarriedAs before now asking hold (carried.Ended found) = EndsThrough before now asking hold found
@@ -218,7 +233,8 @@ abbrev pub PartsAlone : {D : Type 0} → Type 0 → (D → Option Store) → (D 
 PartsAlone {D = D} T told faults between meanwhile =
     (txn : ℕ) (own own' : List ℕ) (before now : ToldHouse D) (result : Result T HouseFault)
     → IsOpenHouse before → IsWholeOrClosed told now.house
-    → Goes told faults between meanwhile (faults_in faults before) txn own own' before now (Anyhow {T = T}) result
+    → Goes (among told faults between meanwhile) (faults_in faults before) txn (known own before) (known own' now)
+    (Anyhow {T = T}) result
     → IsPart told faults txn before.house now.house result
 
 -- a statement begins at once where it can, and else is turned away for what stood in its way
@@ -226,7 +242,8 @@ abbrev pub BeginsAlone : {D : Type 0} → (D → Option Store) → (D → ℕ) �
 BeginsAlone {D = D} told faults between =
     (asking : Asking) (said : Stmt) (own own' : List ℕ) (before now : ToldHouse D) (found : Opened)
     → IsWhole told before.house → IsWholeOrClosed told now.house
-    → GainsSome faults between (faults_in faults before) own own' before now (Begins before now asking said found)
+    → GainsSome faults between (faults_in faults before) (known own before) (known own' now)
+    (Begins before now asking said found)
     → BeginsSo (entries_of before.house) (entries_of now.house) asking said found
 
 -- and where the run stops in that
@@ -234,5 +251,5 @@ abbrev pub HaltsAlone : {D : Type 0} → Type 0 → (D → Option Store) → (D 
 HaltsAlone {D = D} T told faults between meanwhile =
     (asking : Asking) (own own' : List ℕ) (before now : ToldHouse D) (why : HouseFault)
     → IsOpenHouse before → IsWholeOrClosed told now.house
-    → HaltsBeginning told faults between meanwhile asking own own' before now why
+    → HaltsBeginning (among told faults between meanwhile) asking (known own before) (known own' now) why
     → IsTaking {T = T} told faults asking before.house now.house (Err why)

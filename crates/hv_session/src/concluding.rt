@@ -1,12 +1,12 @@
 //! The end of a statement that is ready: by its commit, its Create or its Drop, by the abort for a conflict, or by one for want of memory.
 ghost use Rattle.std.specs.Prelude.{◌≡◌, ℕ, List, false, Some, [], IfOk, IfErr};
 ghost use Rattle.hv_history.specs.Answers.{ok_line};
-ghost use Rattle.hv_steps.specs.hv_acts.specs.hv_telling.specs.hv_house.specs.Faults.{EndsRun};
-ghost use Rattle.hv_steps.specs.hv_acts.specs.hv_telling.specs.hv_house.specs.House.{IsSmall};
-ghost use Rattle.hv_steps.specs.hv_acts.specs.hv_telling.specs.Telling.{IsToldHouse};
-ghost use Rattle.hv_steps.specs.hv_acts.specs.Told.{trail_in, book_in};
-ghost use Rattle.hv_steps.specs.hv_acts.specs.Meant.{IsCommitDue, IsMakeMeant, IsDropMeant};
-ghost use Rattle.hv_steps.specs.hv_acts.specs.Committing.{CanBePut};
+ghost use Rattle.hv_steps.specs.hv_table_reader.specs.hv_acts.specs.hv_telling.specs.hv_house.specs.Faults.{EndsRun};
+ghost use Rattle.hv_steps.specs.hv_table_reader.specs.hv_acts.specs.hv_telling.specs.hv_house.specs.House.{IsSmall};
+ghost use Rattle.hv_steps.specs.hv_table_reader.specs.hv_acts.specs.hv_telling.specs.Telling.{IsToldHouse};
+ghost use Rattle.hv_steps.specs.hv_table_reader.specs.hv_acts.specs.Told.{trail_in, book_in};
+ghost use Rattle.hv_steps.specs.hv_table_reader.specs.hv_acts.specs.Meant.{IsCommitDue, IsMakeMeant, IsDropMeant};
+ghost use Rattle.hv_steps.specs.hv_table_reader.specs.hv_acts.specs.Committing.{CanBePut};
 ghost use Rattle.hv_steps.specs.declared.ready.End.TheVariants as last;
 ghost use Rattle.hv_steps.specs.Ending.{committing, HasReplied};
 ghost use Rattle.hv_steps.specs.declared.reply.Done.TheVariants as done;
@@ -14,12 +14,13 @@ ghost use Rattle.hv_session.specs.Ends.{commit_adds, IsCommitEnd, IsCommitAnswer
 ghost use Rattle.hv_steps.specs.Going.{faults_in, IsOpenHouse, AddsOwn, Goes, WasOpened};
 ghost use Rattle.hv_steps.specs.Leaving.{IsLeft, EndsAct, added_by};
 ghost use Rattle.hv_steps.specs.Phases.{IsDueSo, CanConclude, Concludes, AnswersTruly};
+ghost use Rattle.hv_actor.specs.Acting.{among, known};
 
 use hv_actor::Actor;
 use hv_base::{List, TableId, Text, Touch, TxnId};
 use hv_shelf::{Place, Shelf};
-use hv_steps::hv_acts::hv_telling::hv_house::HouseFault;
-use hv_steps::hv_acts::{
+use hv_steps::hv_table_reader::hv_acts::hv_telling::hv_house::HouseFault;
+use hv_steps::hv_table_reader::hv_acts::{
     Aborted, ActFault, CommitWrites, Committed, DropTable, Made, MakeTable, ToldHouse,
 };
 use hv_steps::{Done, End, Ready, Reply, Way, end_without};
@@ -41,7 +42,8 @@ fn commit<D: Shelf + Drop, W: Actor<D, ToldHouse<D>>>(
     requires due { IsToldHouse D.told (W.house actor.old).house
         → IsCommitDue (trail_in (W.house actor.old)) txn wrote put }
     ensures keeps { W.keeps actor.new }
-    ensures adds { AddsOwn D.faults W.between (W.own actor.old) (W.own actor.new) (W.house actor.old) (W.house actor.new)
+    ensures adds { AddsOwn D.faults W.between txn.0 (known (W.own actor.old) (W.house actor.old))
+        (known (W.own actor.new) (W.house actor.new))
         (commit_adds txn.0 wrote result) }
     ensures ended { IfOk result (IsCommitEnd (W.house actor.new) txn.0 name) }
     ensures answered { (text : List ℕ) → IsDueSo (trail_in (W.house actor.old)) txn wrote name put text
@@ -100,8 +102,8 @@ fn end_by_commit<D: Shelf + Drop, W: Actor<D, ToldHouse<D>>>(
     requires was { WasOpened (trail_in (W.house actor.old)) way.txn.0 }
     requires can { CanConclude D.told (W.house actor.old) way (last.Commit wrote name put) text }
     ensures keeps { W.keeps actor.new }
-    ensures goes { Goes D.told D.faults W.between W.meanwhile (faults_in D.faults (W.house actor.old)) way.txn.0
-        (W.own actor.old) (W.own actor.new) (W.house actor.old) (W.house actor.new)
+    ensures goes { Goes (among D.told D.faults W.between W.meanwhile) (faults_in D.faults (W.house actor.old)) way.txn.0
+        (known (W.own actor.old) (W.house actor.old)) (known (W.own actor.new) (W.house actor.new))
         (Concludes way.txn.0 (W.house actor.new) (record { end = last.Commit wrote name put; text = text })) result }
     ensures answered { IsToldHouse D.told (W.house actor.old).house → IfOk result (AnswersTruly way.txn.0 (W.house actor.new)) }
     ensures ends { IfErr result EndsRun }
@@ -122,7 +124,8 @@ fn make<D: Shelf + Drop, W: Actor<D, ToldHouse<D>>>(
     requires running { IsOpenHouse (W.house actor.old) }
     requires due { IsToldHouse D.told (W.house actor.old).house → IsMakeMeant (trail_in (W.house actor.old)) txn }
     ensures keeps { W.keeps actor.new }
-    ensures adds { AddsOwn D.faults W.between (W.own actor.old) (W.own actor.new) (W.house actor.old) (W.house actor.new)
+    ensures adds { AddsOwn D.faults W.between txn.0 (known (W.own actor.old) (W.house actor.old))
+        (known (W.own actor.new) (W.house actor.new))
         (added_by (create_adds txn.0) result) }
     ensures replied { IfOk result (λ made. HasReplied (book_in (W.house actor.new)) txn.0 ok_line false (Some made.at)) }
     ensures left { IsLeft D.told W.meanwhile txn.0 (W.house actor.new) result }
@@ -154,8 +157,8 @@ fn end_by_create<D: Shelf + Drop, W: Actor<D, ToldHouse<D>>>(
     requires was { WasOpened (trail_in (W.house actor.old)) way.txn.0 }
     requires can { CanConclude D.told (W.house actor.old) way last.Create text }
     ensures keeps { W.keeps actor.new }
-    ensures goes { Goes D.told D.faults W.between W.meanwhile (faults_in D.faults (W.house actor.old)) way.txn.0
-        (W.own actor.old) (W.own actor.new) (W.house actor.old) (W.house actor.new)
+    ensures goes { Goes (among D.told D.faults W.between W.meanwhile) (faults_in D.faults (W.house actor.old)) way.txn.0
+        (known (W.own actor.old) (W.house actor.old)) (known (W.own actor.new) (W.house actor.new))
         (Concludes way.txn.0 (W.house actor.new) (record { end = last.Create; text = text })) result }
     ensures answered { IsToldHouse D.told (W.house actor.old).house → IfOk result (AnswersTruly way.txn.0 (W.house actor.new)) }
     ensures ends { IfErr result EndsRun }
@@ -177,7 +180,8 @@ fn unmake<D: Shelf + Drop, W: Actor<D, ToldHouse<D>>>(
     requires running { IsOpenHouse (W.house actor.old) }
     requires due { IsToldHouse D.told (W.house actor.old).house → IsDropMeant (trail_in (W.house actor.old)) txn table }
     ensures keeps { W.keeps actor.new }
-    ensures adds { AddsOwn D.faults W.between (W.own actor.old) (W.own actor.new) (W.house actor.old) (W.house actor.new)
+    ensures adds { AddsOwn D.faults W.between txn.0 (known (W.own actor.old) (W.house actor.old))
+        (known (W.own actor.new) (W.house actor.new))
         (added_by (drop_adds txn.0 table) result) }
     ensures replied { IfOk result (λ at. HasReplied (book_in (W.house actor.new)) txn.0 ok_line false (Some at)) }
     ensures left { IsLeft D.told W.meanwhile txn.0 (W.house actor.new) result }
@@ -199,8 +203,8 @@ fn end_by_drop<D: Shelf + Drop, W: Actor<D, ToldHouse<D>>>(
     requires was { WasOpened (trail_in (W.house actor.old)) way.txn.0 }
     requires can { CanConclude D.told (W.house actor.old) way (last.Drop table) text }
     ensures keeps { W.keeps actor.new }
-    ensures goes { Goes D.told D.faults W.between W.meanwhile (faults_in D.faults (W.house actor.old)) way.txn.0
-        (W.own actor.old) (W.own actor.new) (W.house actor.old) (W.house actor.new)
+    ensures goes { Goes (among D.told D.faults W.between W.meanwhile) (faults_in D.faults (W.house actor.old)) way.txn.0
+        (known (W.own actor.old) (W.house actor.old)) (known (W.own actor.new) (W.house actor.new))
         (Concludes way.txn.0 (W.house actor.new) (record { end = last.Drop table; text = text })) result }
     ensures answered { IsToldHouse D.told (W.house actor.old).house → IfOk result (AnswersTruly way.txn.0 (W.house actor.new)) }
     ensures ends { IfErr result EndsRun }
@@ -226,8 +230,8 @@ pub fn conclude<D: Shelf + Drop, W: Actor<D, ToldHouse<D>>>(
     requires was { WasOpened (trail_in (W.house actor.old)) way.txn.0 }
     requires can { CanConclude D.told (W.house actor.old) way ready.end ready.text }
     ensures keeps { W.keeps actor.new }
-    ensures goes { Goes D.told D.faults W.between W.meanwhile (faults_in D.faults (W.house actor.old)) way.txn.0
-        (W.own actor.old) (W.own actor.new) (W.house actor.old) (W.house actor.new)
+    ensures goes { Goes (among D.told D.faults W.between W.meanwhile) (faults_in D.faults (W.house actor.old)) way.txn.0
+        (known (W.own actor.old) (W.house actor.old)) (known (W.own actor.new) (W.house actor.new))
         (Concludes way.txn.0 (W.house actor.new) ready) result }
     ensures answered { IsToldHouse D.told (W.house actor.old).house → IfOk result (AnswersTruly way.txn.0 (W.house actor.new)) }
     ensures ends { IfErr result EndsRun }

@@ -7,10 +7,12 @@ pub use hv_steps;
 mod alone;
 mod asking;
 mod concluding;
+mod finishing;
 mod laws;
 mod lines;
 mod opening;
 mod paused;
+mod readying;
 mod statement;
 mod taking;
 
@@ -19,8 +21,8 @@ pub use alone::{
     alone_sees, alone_stops, who_acts_alone,
 };
 pub use asking::{Asking, How};
+pub use finishing::finish;
 pub use laws::what_is_held_can_be_finished;
 pub use lines::memory_reply;
 pub use paused::{Paused, Point, Taken};
 pub use statement::take_up;
-pub use taking::finish;

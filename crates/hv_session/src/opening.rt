@@ -3,21 +3,22 @@ ghost use Rattle.std.specs.Prelude.{◌≡◌, ◌≤◌, ℕ, List, length, Err
 ghost use Rattle.hv_ast.specs.declared.statement.Stmt.{Stmt as Tree};
 ghost use Rattle.hv_built.specs.Running.{Runs};
 ghost use Rattle.hv_stands.specs.Running.{Asking};
-ghost use Rattle.hv_steps.specs.hv_acts.specs.hv_telling.specs.hv_house.specs.Faults.{EndsRun};
-ghost use Rattle.hv_steps.specs.hv_acts.specs.declared.told.ToldHouse.{ToldHouse as House};
-ghost use Rattle.hv_steps.specs.hv_acts.specs.Told.{trail_in};
+ghost use Rattle.hv_steps.specs.hv_table_reader.specs.hv_acts.specs.hv_telling.specs.hv_house.specs.Faults.{EndsRun};
+ghost use Rattle.hv_steps.specs.hv_table_reader.specs.hv_acts.specs.declared.told.ToldHouse.{ToldHouse as House};
+ghost use Rattle.hv_steps.specs.hv_table_reader.specs.hv_acts.specs.Told.{trail_in};
 ghost use Rattle.hv_steps.specs.Going.{IsOpenHouse, faults_in, GainsSome, WasOpened};
 ghost use Rattle.hv_steps.specs.Leaving.{IsLeftFor, EndsAct};
 ghost use Rattle.hv_steps.specs.Phases.{Begins, HaltsBeginning};
 ghost use Rattle.hv_session.specs.Beginnings.{GoesBeginning, lacking, WasHindered, BeginsAtOnce, IsLeftRunning, OpenedFirst, unopened, OpensSo, WaitsIn, reply_of, started_as, StartsSo};
+ghost use Rattle.hv_actor.specs.Acting.{among, known};
 
 use hv_actor::Actor;
 use hv_ast::{Stmt, discard};
 use hv_base::{Duplicate, NoMemory, Text, TxnId};
 use hv_reading::read_statement;
 use hv_shelf::Shelf;
-use hv_steps::hv_acts::hv_telling::hv_house::HouseFault;
-use hv_steps::hv_acts::{
+use hv_steps::hv_table_reader::hv_acts::hv_telling::hv_house::HouseFault;
+use hv_steps::hv_table_reader::hv_acts::{
     Aborted, ActFault, Begin, BeginFault, Begun, OpenTransaction, StartOrAbort, Started, ToldHouse,
 };
 use hv_steps::{Done, Opened, Reply, Way, end_without};
@@ -59,8 +60,9 @@ fn begin_at_once<D: Shelf + Drop, W: Actor<D, ToldHouse<D>>>(
     requires short { length text ≤ 32768 }
     requires named { length session ≤ 32 }
     ensures keeps { W.keeps actor.new }
-    ensures begins { BeginsAtOnce D.told D.faults W.between W.meanwhile (record { session = session; number = number; text = text }) tree
-        (W.own actor.old) (W.own actor.new) (W.house actor.old) (W.house actor.new) result }
+    ensures begins { BeginsAtOnce (among D.told D.faults W.between W.meanwhile)
+        (record { session = session; number = number; text = text }) tree
+        (known (W.own actor.old) (W.house actor.old)) (known (W.own actor.new) (W.house actor.new)) result }
 {
     actor.hold(
         alloc,
@@ -89,9 +91,11 @@ fn open_waiting<D: Shelf + Drop, W: Actor<D, ToldHouse<D>>>(
     requires named { length session ≤ 32 }
     ensures keeps { W.keeps actor.new }
     ensures waits { IfOk result (λ txn. WaitsIn (W.house actor.new) (record { session = session; number = number; text = text }) tree txn.0) }
-    ensures opens { (first : House D) (own : List ℕ) → WasHindered D.faults W.between tree own (W.own actor.old) first (W.house actor.old)
-        → OpensSo D.told D.faults W.between W.meanwhile (record { session = session; number = number; text = text }) tree
-        own (W.own actor.new) first (W.house actor.new) result }
+    ensures opens { (first : House D) (own : List ℕ) → WasHindered D.faults W.between tree (known own first)
+        (known (W.own actor.old) (W.house actor.old))
+        → OpensSo (among D.told D.faults W.between W.meanwhile)
+        (record { session = session; number = number; text = text }) tree
+        (known own first) (known (W.own actor.new) (W.house actor.new)) result }
 {
     actor.hold(
         alloc,
@@ -118,8 +122,10 @@ fn start_waiting<D: Shelf + Drop, W: Actor<D, ToldHouse<D>>>(
     ensures left { IfErr result (IsLeftFor D.told W.meanwhile txn.0 (W.house actor.new)) }
     ensures ends { IfErr result EndsAct }
     ensures starts { (first : House D) (own : List ℕ) (asking : Asking) (said : Tree)
-        → OpenedFirst D.faults W.between asking txn.0 said own (W.own actor.old) first (W.house actor.old)
-        → StartsSo D.faults W.between asking txn said own (W.own actor.new) first (W.house actor.new) result }
+        → OpenedFirst D.faults W.between asking txn.0 said (known own first)
+        (known (W.own actor.old) (W.house actor.old))
+        → StartsSo (among D.told D.faults W.between W.meanwhile) asking txn said (known own first)
+        (known (W.own actor.new) (W.house actor.new)) result }
 {
     actor.hold(alloc, StartOrAbort { txn })
 }
@@ -153,8 +159,10 @@ fn end_unstarted<D: Shelf + Drop, W: Actor<D, ToldHouse<D>>>(
     requires was { WasOpened (trail_in (W.house actor.old)) txn.0 }
     ensures keeps { W.keeps actor.new }
     ensures goes { (first : House D) (own : List ℕ) (asking : Asking) (said : Tree)
-        → OpenedFirst D.faults W.between asking txn.0 said own (W.own actor.old) first (W.house actor.old)
-        → GoesBeginning D.told D.faults W.between W.meanwhile asking said own (W.own actor.new) first (W.house actor.new) result }
+        → OpenedFirst D.faults W.between asking txn.0 said (known own first)
+        (known (W.own actor.old) (W.house actor.old))
+        → GoesBeginning (among D.told D.faults W.between W.meanwhile) asking said (known own first)
+        (known (W.own actor.new) (W.house actor.new)) result }
 {
     match end_without(alloc, actor, txn, why) {
         Ok(done) => Ok(Opened::Ended(done)),
@@ -173,8 +181,10 @@ fn start_or_end<D: Shelf + Drop, W: Actor<D, ToldHouse<D>>>(
     requires was { WasOpened (trail_in (W.house actor.old)) txn.0 }
     ensures keeps { W.keeps actor.new }
     ensures goes { (first : House D) (own : List ℕ) (asking : Asking) (said : Tree)
-        → OpenedFirst D.faults W.between asking txn.0 said own (W.own actor.old) first (W.house actor.old)
-        → GoesBeginning D.told D.faults W.between W.meanwhile asking said own (W.own actor.new) first (W.house actor.new) result }
+        → OpenedFirst D.faults W.between asking txn.0 said (known own first)
+        (known (W.own actor.old) (W.house actor.old))
+        → GoesBeginning (among D.told D.faults W.between W.meanwhile) asking said (known own first)
+        (known (W.own actor.new) (W.house actor.new)) result }
 {
     match start_waiting(alloc, actor, txn) {
         Ok(found) => Ok(started_as(txn, found)),
@@ -221,9 +231,11 @@ fn open_and_start<D: Shelf + Drop, W: Actor<D, ToldHouse<D>>>(
     requires short { length text ≤ 32768 }
     requires named { length session ≤ 32 }
     ensures keeps { W.keeps actor.new }
-    ensures goes { (first : House D) (own : List ℕ) → WasHindered D.faults W.between tree own (W.own actor.old) first (W.house actor.old)
-        → GoesBeginning D.told D.faults W.between W.meanwhile (record { session = session; number = number; text = text }) tree
-        own (W.own actor.new) first (W.house actor.new) result }
+    ensures goes { (first : House D) (own : List ℕ) → WasHindered D.faults W.between tree (known own first)
+        (known (W.own actor.old) (W.house actor.old))
+        → GoesBeginning (among D.told D.faults W.between W.meanwhile)
+        (record { session = session; number = number; text = text }) tree
+        (known own first) (known (W.own actor.new) (W.house actor.new)) result }
 {
     match open_waiting(alloc, actor, session, number, text, tree) {
         Ok(txn) => start_or_end(alloc, actor, txn),
@@ -245,9 +257,10 @@ fn open_hindered<D: Shelf + Drop, W: Actor<D, ToldHouse<D>>>(
     requires named { length session ≤ 32 }
     ensures keeps { W.keeps actor.new }
     ensures goes { (first : House D) (own : List ℕ) (said : Tree) → Runs text said
-        → WasHindered D.faults W.between said own (W.own actor.old) first (W.house actor.old)
-        → GoesBeginning D.told D.faults W.between W.meanwhile (record { session = session; number = number; text = text }) said
-        own (W.own actor.new) first (W.house actor.new) result }
+        → WasHindered D.faults W.between said (known own first) (known (W.own actor.old) (W.house actor.old))
+        → GoesBeginning (among D.told D.faults W.between W.meanwhile)
+        (record { session = session; number = number; text = text }) said
+        (known own first) (known (W.own actor.new) (W.house actor.new)) result }
 {
     match read_statement(alloc, &text) {
         Ok(tree) => open_and_start(alloc, actor, session, number, text, tree),
@@ -270,10 +283,12 @@ fn not_begun<D: Shelf + Drop, W: Actor<D, ToldHouse<D>>>(
     requires named { length session ≤ 32 }
     ensures keeps { W.keeps actor.new }
     ensures goes { (first : House D) (own : List ℕ) (said : Tree) → Runs text said
-        → BeginsAtOnce D.told D.faults W.between W.meanwhile (record { session = session; number = number; text = text }) said
-        own (W.own actor.old) first (W.house actor.old) (Err why)
-        → GoesBeginning D.told D.faults W.between W.meanwhile (record { session = session; number = number; text = text }) said
-        own (W.own actor.new) first (W.house actor.new) result }
+        → BeginsAtOnce (among D.told D.faults W.between W.meanwhile)
+        (record { session = session; number = number; text = text }) said
+        (known own first) (known (W.own actor.old) (W.house actor.old)) (Err why)
+        → GoesBeginning (among D.told D.faults W.between W.meanwhile)
+        (record { session = session; number = number; text = text }) said
+        (known own first) (known (W.own actor.new) (W.house actor.new)) result }
 {
     match why {
         BeginFault::Held { .. } => open_hindered(alloc, actor, session, number, text),
@@ -301,8 +316,9 @@ fn begin_or_open<D: Shelf + Drop, W: Actor<D, ToldHouse<D>>>(
     requires name { name ≡ session }
     requires words { words ≡ text }
     ensures keeps { W.keeps actor.new }
-    ensures goes { GoesBeginning D.told D.faults W.between W.meanwhile (record { session = session; number = number; text = text }) tree
-        (W.own actor.old) (W.own actor.new) (W.house actor.old) (W.house actor.new) result }
+    ensures goes { GoesBeginning (among D.told D.faults W.between W.meanwhile)
+        (record { session = session; number = number; text = text }) tree
+        (known (W.own actor.old) (W.house actor.old)) (known (W.own actor.new) (W.house actor.new)) result }
 {
     match begin_at_once(alloc, actor, session, number, text, tree) {
         Ok(start) => Ok(Opened::Started(Way {
@@ -333,10 +349,11 @@ pub fn begin<D: Shelf + Drop, W: Actor<D, ToldHouse<D>>>(
     requires named { length session ≤ 32 }
     ensures keeps { W.keeps actor.new }
     ensures begins { (said : Tree) → Runs text said → IfOk result (λ opened. GainsSome D.faults W.between (faults_in D.faults (W.house actor.old))
-        (W.own actor.old) (W.own actor.new) (W.house actor.old) (W.house actor.new)
+        (known (W.own actor.old) (W.house actor.old)) (known (W.own actor.new) (W.house actor.new))
         (Begins (W.house actor.old) (W.house actor.new) (record { session = session; number = number; text = text }) said opened)) }
-    ensures halts { IfErr result (HaltsBeginning D.told D.faults W.between W.meanwhile (record { session = session; number = number; text = text })
-        (W.own actor.old) (W.own actor.new) (W.house actor.old) (W.house actor.new)) }
+    ensures halts { IfErr result (HaltsBeginning (among D.told D.faults W.between W.meanwhile)
+        (record { session = session; number = number; text = text })
+        (known (W.own actor.old) (W.house actor.old)) (known (W.own actor.new) (W.house actor.new))) }
     ensures ends { IfErr result EndsRun }
 {
     match copy_asked(alloc, &session, &text) {

@@ -1,6 +1,6 @@
 use hv_ast::Stmt;
 use hv_effect::Touching;
-use hv_steps::{Done, Ready, Way};
+use hv_steps::{Done, Ready, Reply, Way};
 
 /// How far a held statement has come.
 #[derive(Drop)]
@@ -37,8 +37,8 @@ pub enum Carried {
 /// What taking up a statement answers.
 #[derive(Drop)]
 pub enum Taken {
-    /// It has ended, or was never opened.
-    Ended(Done),
+    /// It has ended, or was never opened, and this is its reply.
+    Replied(Reply),
     /// It is held where it was to be.
     Kept(Paused),
 }

@@ -1,14 +1,16 @@
 //! A statement from its text to its end, or to the place where it is to be held, over any actor.
 ghost use Rattle.std.specs.Prelude.{◌≡◌, ◌≤◌, false, length, IfOk, IfErr};
 ghost use Rattle.hv_built.specs.Running.{Runs};
-ghost use Rattle.hv_steps.specs.hv_acts.specs.hv_telling.specs.hv_house.specs.Faults.{EndsRun};
+ghost use Rattle.hv_steps.specs.hv_table_reader.specs.hv_acts.specs.hv_telling.specs.hv_house.specs.Faults.{EndsRun};
 ghost use Rattle.hv_steps.specs.Going.{IsOpenHouse, faults_in, GainsSome};
 ghost use Rattle.hv_steps.specs.Phases.{HaltsBeginning};
 ghost use Rattle.hv_session.specs.Doing.{IsHold, IsSaidFor, WasNeverOpened, TakesText, CanFinishTaken};
 ghost use Rattle.hv_session.specs.Taking.{asked_of};
 ghost use Rattle.hv_session.specs.Ways.{ActsAlone, TakesAlone};
+ghost use Rattle.hv_actor.specs.Acting.{among, known};
 
 use crate::asking::{Asking, How};
+use crate::finishing::reply_from;
 use crate::lines::{full_reply, memory_reply, text_reply};
 use crate::paused::{Carried, Taken};
 use crate::taking::carry;
@@ -17,9 +19,8 @@ use hv_ast::{Stmt, discard};
 use hv_base::NoMemory;
 use hv_reading::read_statement;
 use hv_shelf::Shelf;
-use hv_steps::Done;
-use hv_steps::hv_acts::ToldHouse;
-use hv_steps::hv_acts::hv_telling::hv_house::HouseFault;
+use hv_steps::hv_table_reader::hv_acts::ToldHouse;
+use hv_steps::hv_table_reader::hv_acts::hv_telling::hv_house::HouseFault;
 use std::alloc::Global;
 
 /// What is replied to a statement that was carried so far. Only memory may lack for it, where it was never opened.
@@ -28,10 +29,10 @@ fn said(alloc: Global, found: Carried) -> Result<Taken, NoMemory>
     ensures unopened { IfErr result (λ _. WasNeverOpened found) }
 {
     match found {
-        Carried::Ended(done) => Ok(Taken::Ended(done)),
+        Carried::Ended(done) => Ok(Taken::Replied(reply_from(done))),
         Carried::Kept(paused) => Ok(Taken::Kept(paused)),
-        Carried::Full { .. } => Ok(Taken::Ended(Done::Replied(full_reply(alloc)?))),
-        Carried::NoMemory => Ok(Taken::Ended(Done::Replied(memory_reply(alloc)?))),
+        Carried::Full { .. } => Ok(Taken::Replied(full_reply(alloc)?)),
+        Carried::NoMemory => Ok(Taken::Replied(memory_reply(alloc)?)),
     }
 }
 
@@ -52,10 +53,10 @@ fn take_read<D: Shelf + Drop, W: Actor<D, ToldHouse<D>>>(
     requires hold { IsHold asking.hold }
     ensures keeps { W.keeps actor.new }
     ensures takes { IfOk result (λ answer. GainsSome D.faults W.between (faults_in D.faults (W.house actor.old))
-        (W.own actor.old) (W.own actor.new) (W.house actor.old) (W.house actor.new)
+        (known (W.own actor.old) (W.house actor.old)) (known (W.own actor.new) (W.house actor.new))
         (TakesText D.told (W.house actor.old) (W.house actor.new) (asked_of asking) asking.hold answer)) }
-    ensures halts { IfErr result (HaltsBeginning D.told D.faults W.between W.meanwhile (asked_of asking)
-        (W.own actor.old) (W.own actor.new) (W.house actor.old) (W.house actor.new)) }
+    ensures halts { IfErr result (HaltsBeginning (among D.told D.faults W.between W.meanwhile) (asked_of asking)
+        (known (W.own actor.old) (W.house actor.old)) (known (W.own actor.new) (W.house actor.new))) }
     ensures can { IfOk result (CanFinishTaken D.told (W.house actor.new)) }
     ensures alone { ActsAlone W.between W.meanwhile
         → TakesAlone D.told D.faults (asked_of asking) asking.hold (W.house actor.old).house (W.house actor.new).house result }
@@ -89,10 +90,10 @@ fn take_statement<D: Shelf + Drop, W: Actor<D, ToldHouse<D>>>(
     requires hold { IsHold asking.hold }
     ensures keeps { W.keeps actor.new }
     ensures takes { IfOk result (λ answer. GainsSome D.faults W.between (faults_in D.faults (W.house actor.old))
-        (W.own actor.old) (W.own actor.new) (W.house actor.old) (W.house actor.new)
+        (known (W.own actor.old) (W.house actor.old)) (known (W.own actor.new) (W.house actor.new))
         (TakesText D.told (W.house actor.old) (W.house actor.new) (asked_of asking) asking.hold answer)) }
-    ensures halts { IfErr result (HaltsBeginning D.told D.faults W.between W.meanwhile (asked_of asking)
-        (W.own actor.old) (W.own actor.new) (W.house actor.old) (W.house actor.new)) }
+    ensures halts { IfErr result (HaltsBeginning (among D.told D.faults W.between W.meanwhile) (asked_of asking)
+        (known (W.own actor.old) (W.house actor.old)) (known (W.own actor.new) (W.house actor.new))) }
     ensures can { IfOk result (CanFinishTaken D.told (W.house actor.new)) }
     ensures alone { ActsAlone W.between W.meanwhile
         → TakesAlone D.told D.faults (asked_of asking) asking.hold (W.house actor.old).house (W.house actor.new).house result }
@@ -102,7 +103,7 @@ fn take_statement<D: Shelf + Drop, W: Actor<D, ToldHouse<D>>>(
         Ok(kept) => take_read(alloc, actor, asking, kept, tree),
         Err(_) => {
             discard(tree);
-            Ok(Taken::Ended(Done::Replied(memory_reply(alloc)?)))
+            Ok(Taken::Replied(memory_reply(alloc)?))
         }
     }
 }
@@ -127,10 +128,10 @@ pub fn take_up<D: Shelf + Drop, W: Actor<D, ToldHouse<D>>>(
     requires run { how.waits ≡ false }
     ensures keeps { W.keeps actor.new }
     ensures takes { IfOk result (λ answer. GainsSome D.faults W.between (faults_in D.faults (W.house actor.old))
-        (W.own actor.old) (W.own actor.new) (W.house actor.old) (W.house actor.new)
+        (known (W.own actor.old) (W.house actor.old)) (known (W.own actor.new) (W.house actor.new))
         (TakesText D.told (W.house actor.old) (W.house actor.new) (asked_of asking) asking.hold answer)) }
-    ensures halts { IfErr result (HaltsBeginning D.told D.faults W.between W.meanwhile (asked_of asking)
-        (W.own actor.old) (W.own actor.new) (W.house actor.old) (W.house actor.new)) }
+    ensures halts { IfErr result (HaltsBeginning (among D.told D.faults W.between W.meanwhile) (asked_of asking)
+        (known (W.own actor.old) (W.house actor.old)) (known (W.own actor.new) (W.house actor.new))) }
     ensures can { IfOk result (CanFinishTaken D.told (W.house actor.new)) }
     ensures alone { ActsAlone W.between W.meanwhile
         → TakesAlone D.told D.faults (asked_of asking) asking.hold (W.house actor.old).house (W.house actor.new).house result }
@@ -138,6 +139,6 @@ pub fn take_up<D: Shelf + Drop, W: Actor<D, ToldHouse<D>>>(
 {
     match read_statement(alloc, &asking.text) {
         Ok(tree) => take_statement(alloc, actor, asking, tree),
-        Err(fault) => Ok(Taken::Ended(Done::Replied(text_reply(alloc, fault)?))),
+        Err(fault) => Ok(Taken::Replied(text_reply(alloc, fault)?)),
     }
 }

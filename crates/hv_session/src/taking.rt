@@ -1,33 +1,34 @@
 //! A statement from its tree to its end, or to the place where it is to be held, over any actor.
 ghost use Rattle.std.specs.Prelude.{◌≡◌, ◌≤◌, ℕ, List, Some, None, length, take, IfOk, IfErr};
 ghost use Rattle.hv_base.specs.declared.gate.Stage.TheVariants as stage;
-ghost use Rattle.hv_ast.specs.declared.statement.Stmt.{Stmt as Tree};
 ghost use Rattle.hv_built.specs.Running.{Runs};
 ghost use Rattle.hv_stands.specs.Running.{Asking, meant};
-ghost use Rattle.hv_steps.specs.hv_acts.specs.hv_telling.specs.hv_house.specs.Faults.{EndsRun};
-ghost use Rattle.hv_steps.specs.hv_acts.specs.hv_telling.specs.hv_house.specs.House.{entries_of};
-ghost use Rattle.hv_steps.specs.hv_acts.specs.hv_telling.specs.Telling.{IsToldHouse, IsWhole};
-ghost use Rattle.hv_steps.specs.hv_acts.specs.declared.told.ToldHouse.{ToldHouse as House};
-ghost use Rattle.hv_steps.specs.hv_acts.specs.Told.{trail_in};
+ghost use Rattle.hv_steps.specs.hv_table_reader.specs.hv_acts.specs.hv_telling.specs.hv_house.specs.Faults.{EndsRun};
+ghost use Rattle.hv_steps.specs.hv_table_reader.specs.hv_acts.specs.hv_telling.specs.hv_house.specs.House.{entries_of};
+ghost use Rattle.hv_steps.specs.hv_table_reader.specs.hv_acts.specs.hv_telling.specs.Telling.{IsToldHouse, IsWhole};
+ghost use Rattle.hv_steps.specs.hv_table_reader.specs.hv_acts.specs.declared.told.ToldHouse.{ToldHouse as House};
+ghost use Rattle.hv_steps.specs.hv_table_reader.specs.hv_acts.specs.Told.{trail_in};
 ghost use Rattle.hv_steps.specs.Ending.{CanEnd};
 ghost use Rattle.hv_session.specs.Taking.{IsHeldBySome, IsTrulyHeld};
-ghost use Rattle.hv_session.specs.Ways.{ActsAlone, IsOnWay, IsOnWayAs, EndsAlone, GoesAlone, CarriesAlone};
+ghost use Rattle.hv_session.specs.Ways.{ActsAlone, IsOnWay, EndsAlone, GoesAlone, CarriesAlone};
 ghost use Rattle.hv_steps.specs.Going.{IsOpenHouse, faults_in, Goes, GainsSome, WasOnWay};
 ghost use Rattle.hv_steps.specs.Phases.{ComesTo, AnswersTruly, Begins, HaltsBeginning};
-ghost use Rattle.hv_session.specs.Doing.{EndsFrom, EndsAs, IsHold, is_refused, carried_of, CanFinish, CanFinishSome, Finishes, Takes, GoesToHold, GoesTaking, WasStarted};
+ghost use Rattle.hv_session.specs.Doing.{EndsFrom, EndsAs, IsHold, is_refused, carried_of, CanFinish, CanFinishSome, Finishes, Takes, GoesToHold, GoesTaking, WasStarted, up_to};
+ghost use Rattle.hv_actor.specs.Acting.{among, known};
 
 use crate::concluding::conclude;
 use crate::opening::begin;
 use crate::paused::{Carried, Paused, Point};
+use crate::readying::get_ready;
 use hv_actor::Actor;
 use hv_ast::{Stmt, discard};
 use hv_base::{Stage, Text};
 use hv_effect::Touching;
 use hv_logic::Meaning;
 use hv_shelf::Shelf;
-use hv_steps::hv_acts::ToldHouse;
-use hv_steps::hv_acts::hv_telling::hv_house::HouseFault;
-use hv_steps::{Done, Opened, Outcome, Prepared, Way, prepare, see};
+use hv_steps::hv_table_reader::hv_acts::ToldHouse;
+use hv_steps::hv_table_reader::hv_acts::hv_telling::hv_house::HouseFault;
+use hv_steps::{Done, Opened, Outcome, Prepared, Way, see};
 use std::alloc::Global;
 
 /// What has ended, as what taking up a statement answers.
@@ -52,22 +53,25 @@ fn end_as<D: Shelf + Drop, W: Actor<D, ToldHouse<D>>>(
     alloc: Global,
     actor: &mut W,
     way: Way,
+    tree: &Stmt,
     meaning: Touching,
 ) -> Result<Done, HouseFault>
     requires keeps { W.keeps actor.old }
     requires running { IsOpenHouse (W.house actor.old) }
-    requires was { (asking : Asking) × (said : Tree) × WasOnWay (trail_in (W.house actor.old)) asking way said
-        × ComesTo D.told (W.house actor.old) way said meaning }
+    requires was { (asking : Asking) × WasOnWay (trail_in (W.house actor.old)) asking way tree.now }
+    requires comes { ComesTo D.told (W.house actor.old) way tree.now meaning }
     ensures keeps { W.keeps actor.new }
-    ensures goes { Goes D.told D.faults W.between W.meanwhile (faults_in D.faults (W.house actor.old)) way.txn.0
-        (W.own actor.old) (W.own actor.new) (W.house actor.old) (W.house actor.new) (EndsFrom way.txn.0 (W.house actor.new) meaning) result }
+    ensures goes { Goes (among D.told D.faults W.between W.meanwhile) (faults_in D.faults (W.house actor.old)) way.txn.0
+        (known (W.own actor.old) (W.house actor.old)) (known (W.own actor.new) (W.house actor.new))
+        (EndsFrom (W.house actor.new) way tree.now meaning) result }
     ensures answered { IsToldHouse D.told (W.house actor.old).house → IfOk result (AnswersTruly way.txn.0 (W.house actor.new)) }
-    ensures alone { ActsAlone W.between W.meanwhile → IsOnWayAs D.told (W.house actor.old).house way meaning
+    ensures alone { ActsAlone W.between W.meanwhile → IsOnWay (entries_of (W.house actor.old).house) way tree.now
+        → (IsToldHouse D.told (W.house actor.old).house → meant (take way.place (entries_of (W.house actor.old).house)) tree.now ≡ Some meaning)
         → CanEnd (entries_of (W.house actor.old).house) meaning
         → EndsAlone D.told D.faults way.txn.0 (W.house actor.old).house (W.house actor.new).house result }
     ensures ends { IfErr result EndsRun }
 {
-    match prepare(alloc, actor, way, meaning) {
+    match get_ready(alloc, actor, way, tree, meaning) {
         Ok(Prepared::Ready(ready)) => conclude(alloc, actor, way, ready),
         Ok(Prepared::Ended(found)) => Ok(found),
         Err(why) => Err(why),
@@ -85,15 +89,16 @@ fn go_to_end<D: Shelf + Drop, W: Actor<D, ToldHouse<D>>>(
     requires running { IsOpenHouse (W.house actor.old) }
     requires was { (asking : Asking) × WasOnWay (trail_in (W.house actor.old)) asking way tree.now }
     ensures keeps { W.keeps actor.new }
-    ensures goes { Goes D.told D.faults W.between W.meanwhile (faults_in D.faults (W.house actor.old)) way.txn.0
-        (W.own actor.old) (W.own actor.new) (W.house actor.old) (W.house actor.new) (EndsAs D.told (W.house actor.new) way tree.now) result }
+    ensures goes { Goes (among D.told D.faults W.between W.meanwhile) (faults_in D.faults (W.house actor.old)) way.txn.0
+        (known (W.own actor.old) (W.house actor.old)) (known (W.own actor.new) (W.house actor.new))
+        (EndsAs D.told (W.house actor.new) way tree.now) result }
     ensures answered { IsToldHouse D.told (W.house actor.old).house → IfOk result (AnswersTruly way.txn.0 (W.house actor.new)) }
     ensures alone { ActsAlone W.between W.meanwhile → IsOnWay (entries_of (W.house actor.old).house) way tree.now
         → EndsAlone D.told D.faults way.txn.0 (W.house actor.old).house (W.house actor.new).house result }
     ensures ends { IfErr result EndsRun }
 {
     match see(alloc, actor, way, tree) {
-        Ok(Outcome::Means(meaning)) => end_as(alloc, actor, way, meaning),
+        Ok(Outcome::Means(meaning)) => end_as(alloc, actor, way, tree, meaning),
         Ok(Outcome::Ended(found)) => Ok(found),
         Err(why) => Err(why),
     }
@@ -112,17 +117,19 @@ fn keep_meant<D: Shelf + Drop, W: Actor<D, ToldHouse<D>>>(
     requires was { (asking : Asking) × WasOnWay (trail_in (W.house actor.old)) asking way tree }
     requires comes { ComesTo D.told (W.house actor.old) way tree meaning }
     ensures keeps { W.keeps actor.new }
-    ensures goes { GoesToHold D.told D.faults W.between W.meanwhile way tree (Some stage.Read)
-        (W.own actor.old) (W.own actor.new) (W.house actor.old) (W.house actor.new) result }
+    ensures goes { GoesToHold (among D.told D.faults W.between W.meanwhile) way (up_to tree (Some stage.Read))
+        (known (W.own actor.old) (W.house actor.old)) (known (W.own actor.new) (W.house actor.new)) result }
     ensures alone { ActsAlone W.between W.meanwhile → IsOnWay (entries_of (W.house actor.old).house) way tree
         → CanEnd (entries_of (W.house actor.old).house) meaning
         → (IsToldHouse D.told (W.house actor.old).house → meant (take way.place (entries_of (W.house actor.old).house)) tree ≡ Some meaning)
-        → GoesAlone D.told D.faults way tree (Some stage.Read) (W.house actor.old).house (W.house actor.new).house result }
+        → GoesAlone D.told D.faults way (up_to tree (Some stage.Read)) (W.house actor.old).house
+        (W.house actor.new).house result }
     ensures ends { IfErr result EndsRun }
 {
     if is_refused(&meaning) {
+        let found = end_as(alloc, actor, way, &tree, meaning);
         discard(tree);
-        taken(end_as(alloc, actor, way, meaning))
+        taken(found)
     } else {
         Ok(Carried::Kept(Paused {
             way,
@@ -143,10 +150,11 @@ fn hold_read<D: Shelf + Drop, W: Actor<D, ToldHouse<D>>>(
     requires running { IsOpenHouse (W.house actor.old) }
     requires was { (asking : Asking) × WasOnWay (trail_in (W.house actor.old)) asking way tree }
     ensures keeps { W.keeps actor.new }
-    ensures goes { GoesToHold D.told D.faults W.between W.meanwhile way tree (Some stage.Read)
-        (W.own actor.old) (W.own actor.new) (W.house actor.old) (W.house actor.new) result }
+    ensures goes { GoesToHold (among D.told D.faults W.between W.meanwhile) way (up_to tree (Some stage.Read))
+        (known (W.own actor.old) (W.house actor.old)) (known (W.own actor.new) (W.house actor.new)) result }
     ensures alone { ActsAlone W.between W.meanwhile → IsOnWay (entries_of (W.house actor.old).house) way tree
-        → GoesAlone D.told D.faults way tree (Some stage.Read) (W.house actor.old).house (W.house actor.new).house result }
+        → GoesAlone D.told D.faults way (up_to tree (Some stage.Read)) (W.house actor.old).house
+        (W.house actor.new).house result }
     ensures ends { IfErr result EndsRun }
 {
     match see(alloc, actor, way, &tree) {
@@ -175,15 +183,16 @@ fn keep_ready<D: Shelf + Drop, W: Actor<D, ToldHouse<D>>>(
     requires was { (asking : Asking) × WasOnWay (trail_in (W.house actor.old)) asking way tree }
     requires comes { ComesTo D.told (W.house actor.old) way tree meaning }
     ensures keeps { W.keeps actor.new }
-    ensures goes { GoesToHold D.told D.faults W.between W.meanwhile way tree (Some stage.Commit)
-        (W.own actor.old) (W.own actor.new) (W.house actor.old) (W.house actor.new) result }
+    ensures goes { GoesToHold (among D.told D.faults W.between W.meanwhile) way (up_to tree (Some stage.Commit))
+        (known (W.own actor.old) (W.house actor.old)) (known (W.own actor.new) (W.house actor.new)) result }
     ensures alone { ActsAlone W.between W.meanwhile → IsOnWay (entries_of (W.house actor.old).house) way tree
         → CanEnd (entries_of (W.house actor.old).house) meaning
         → (IsToldHouse D.told (W.house actor.old).house → meant (take way.place (entries_of (W.house actor.old).house)) tree ≡ Some meaning)
-        → GoesAlone D.told D.faults way tree (Some stage.Commit) (W.house actor.old).house (W.house actor.new).house result }
+        → GoesAlone D.told D.faults way (up_to tree (Some stage.Commit)) (W.house actor.old).house
+        (W.house actor.new).house result }
     ensures ends { IfErr result EndsRun }
 {
-    match prepare(alloc, actor, way, meaning) {
+    match get_ready(alloc, actor, way, &tree, meaning) {
         Ok(Prepared::Ready(ready)) => Ok(Carried::Kept(Paused {
             way,
             tree,
@@ -211,10 +220,11 @@ fn hold_commit<D: Shelf + Drop, W: Actor<D, ToldHouse<D>>>(
     requires running { IsOpenHouse (W.house actor.old) }
     requires was { (asking : Asking) × WasOnWay (trail_in (W.house actor.old)) asking way tree }
     ensures keeps { W.keeps actor.new }
-    ensures goes { GoesToHold D.told D.faults W.between W.meanwhile way tree (Some stage.Commit)
-        (W.own actor.old) (W.own actor.new) (W.house actor.old) (W.house actor.new) result }
+    ensures goes { GoesToHold (among D.told D.faults W.between W.meanwhile) way (up_to tree (Some stage.Commit))
+        (known (W.own actor.old) (W.house actor.old)) (known (W.own actor.new) (W.house actor.new)) result }
     ensures alone { ActsAlone W.between W.meanwhile → IsOnWay (entries_of (W.house actor.old).house) way tree
-        → GoesAlone D.told D.faults way tree (Some stage.Commit) (W.house actor.old).house (W.house actor.new).house result }
+        → GoesAlone D.told D.faults way (up_to tree (Some stage.Commit)) (W.house actor.old).house
+        (W.house actor.new).house result }
     ensures ends { IfErr result EndsRun }
 {
     match see(alloc, actor, way, &tree) {
@@ -241,10 +251,10 @@ fn go_unheld<D: Shelf + Drop, W: Actor<D, ToldHouse<D>>>(
     requires running { IsOpenHouse (W.house actor.old) }
     requires was { (asking : Asking) × WasOnWay (trail_in (W.house actor.old)) asking way tree }
     ensures keeps { W.keeps actor.new }
-    ensures goes { GoesToHold D.told D.faults W.between W.meanwhile way tree (None)
-        (W.own actor.old) (W.own actor.new) (W.house actor.old) (W.house actor.new) result }
+    ensures goes { GoesToHold (among D.told D.faults W.between W.meanwhile) way (up_to tree (None))
+        (known (W.own actor.old) (W.house actor.old)) (known (W.own actor.new) (W.house actor.new)) result }
     ensures alone { ActsAlone W.between W.meanwhile → IsOnWay (entries_of (W.house actor.old).house) way tree
-        → GoesAlone D.told D.faults way tree None (W.house actor.old).house (W.house actor.new).house result }
+        → GoesAlone D.told D.faults way (up_to tree None) (W.house actor.old).house (W.house actor.new).house result }
     ensures ends { IfErr result EndsRun }
 {
     let found = go_to_end(alloc, actor, way, &tree);
@@ -265,10 +275,11 @@ fn hold_at<D: Shelf + Drop, W: Actor<D, ToldHouse<D>>>(
     requires was { (asking : Asking) × WasOnWay (trail_in (W.house actor.old)) asking way tree }
     requires hold { IsHold (Some at) }
     ensures keeps { W.keeps actor.new }
-    ensures goes { GoesToHold D.told D.faults W.between W.meanwhile way tree (Some at)
-        (W.own actor.old) (W.own actor.new) (W.house actor.old) (W.house actor.new) result }
+    ensures goes { GoesToHold (among D.told D.faults W.between W.meanwhile) way (up_to tree (Some at))
+        (known (W.own actor.old) (W.house actor.old)) (known (W.own actor.new) (W.house actor.new)) result }
     ensures alone { ActsAlone W.between W.meanwhile → IsOnWay (entries_of (W.house actor.old).house) way tree
-        → GoesAlone D.told D.faults way tree (Some at) (W.house actor.old).house (W.house actor.new).house result }
+        → GoesAlone D.told D.faults way (up_to tree (Some at)) (W.house actor.old).house (W.house actor.new).house
+        result }
     ensures ends { IfErr result EndsRun }
 {
     match at {
@@ -297,10 +308,10 @@ fn go<D: Shelf + Drop, W: Actor<D, ToldHouse<D>>>(
     requires was { (asking : Asking) × WasOnWay (trail_in (W.house actor.old)) asking way tree }
     requires hold { IsHold hold }
     ensures keeps { W.keeps actor.new }
-    ensures goes { GoesToHold D.told D.faults W.between W.meanwhile way tree hold
-        (W.own actor.old) (W.own actor.new) (W.house actor.old) (W.house actor.new) result }
+    ensures goes { GoesToHold (among D.told D.faults W.between W.meanwhile) way (up_to tree hold)
+        (known (W.own actor.old) (W.house actor.old)) (known (W.own actor.new) (W.house actor.new)) result }
     ensures alone { ActsAlone W.between W.meanwhile → IsOnWay (entries_of (W.house actor.old).house) way tree
-        → GoesAlone D.told D.faults way tree hold (W.house actor.old).house (W.house actor.new).house result }
+        → GoesAlone D.told D.faults way (up_to tree hold) (W.house actor.old).house (W.house actor.new).house result }
     ensures ends { IfErr result EndsRun }
 {
     match hold {
@@ -323,12 +334,15 @@ fn go_opened<D: Shelf + Drop, W: Actor<D, ToldHouse<D>>>(
     requires hold { IsHold hold }
     ensures keeps { W.keeps actor.new }
     ensures goes { (first : House D) (own : List ℕ) (asking : Asking)
-        → GainsSome D.faults W.between (faults_in D.faults first) own (W.own actor.old) first (W.house actor.old) (Begins first (W.house actor.old) asking tree opened)
-        → GoesTaking D.told D.faults W.between W.meanwhile asking tree hold own (W.own actor.new) first (W.house actor.new) result }
+        → GainsSome D.faults W.between (faults_in D.faults first) (known own first)
+        (known (W.own actor.old) (W.house actor.old)) (Begins first (W.house actor.old) asking tree opened)
+        → GoesTaking (among D.told D.faults W.between W.meanwhile) asking (up_to tree hold) (known own first)
+        (known (W.own actor.new) (W.house actor.new)) result }
     ensures can { IfOk result (CanFinishSome D.told (W.house actor.new)) }
     ensures alone { ActsAlone W.between W.meanwhile → (first : House D) (own : List ℕ) (asking : Asking) → Runs asking.text tree
         → IsOpenHouse first → IsWhole D.told first.house
-        → GainsSome D.faults W.between (faults_in D.faults first) own (W.own actor.old) first (W.house actor.old) (Begins first (W.house actor.old) asking tree opened)
+        → GainsSome D.faults W.between (faults_in D.faults first) (known own first)
+        (known (W.own actor.old) (W.house actor.old)) (Begins first (W.house actor.old) asking tree opened)
         → CarriesAlone D.told D.faults asking hold first.house (W.house actor.new).house result }
     ensures ends { IfErr result EndsRun }
 {
@@ -372,10 +386,12 @@ pub fn carry<D: Shelf + Drop, W: Actor<D, ToldHouse<D>>>(
     requires hold { IsHold hold }
     ensures keeps { W.keeps actor.new }
     ensures takes { IfOk result (λ found. GainsSome D.faults W.between (faults_in D.faults (W.house actor.old))
-        (W.own actor.old) (W.own actor.new) (W.house actor.old) (W.house actor.new)
-        (Takes D.told (W.house actor.old) (W.house actor.new) (record { session = session; number = number; text = text }) tree hold found)) }
-    ensures halts { IfErr result (HaltsBeginning D.told D.faults W.between W.meanwhile (record { session = session; number = number; text = text })
-        (W.own actor.old) (W.own actor.new) (W.house actor.old) (W.house actor.new)) }
+        (known (W.own actor.old) (W.house actor.old)) (known (W.own actor.new) (W.house actor.new))
+        (Takes D.told (W.house actor.old) (W.house actor.new)
+        (record { session = session; number = number; text = text }) (up_to tree hold) found)) }
+    ensures halts { IfErr result (HaltsBeginning (among D.told D.faults W.between W.meanwhile)
+        (record { session = session; number = number; text = text })
+        (known (W.own actor.old) (W.house actor.old)) (known (W.own actor.new) (W.house actor.new))) }
     ensures can { IfOk result (CanFinishSome D.told (W.house actor.new)) }
     ensures alone { ActsAlone W.between W.meanwhile → CarriesAlone D.told D.faults (record { session = session; number = number; text = text }) hold
         (W.house actor.old).house (W.house actor.new).house result }
@@ -394,7 +410,7 @@ pub fn carry<D: Shelf + Drop, W: Actor<D, ToldHouse<D>>>(
 ///
 /// # Errors
 /// As `carry`.
-pub fn finish<D: Shelf + Drop, W: Actor<D, ToldHouse<D>>>(
+pub fn go_on<D: Shelf + Drop, W: Actor<D, ToldHouse<D>>>(
     alloc: Global,
     actor: &mut W,
     paused: Paused,
@@ -403,8 +419,10 @@ pub fn finish<D: Shelf + Drop, W: Actor<D, ToldHouse<D>>>(
     requires running { IsOpenHouse (W.house actor.old) }
     requires can { CanFinish D.told (W.house actor.old) paused }
     ensures keeps { W.keeps actor.new }
-    ensures goes { Goes D.told D.faults W.between W.meanwhile (faults_in D.faults (W.house actor.old)) paused.way.txn.0
-        (W.own actor.old) (W.own actor.new) (W.house actor.old) (W.house actor.new) (Finishes D.told (W.house actor.new) paused) result }
+    ensures goes { Goes (among D.told D.faults W.between W.meanwhile) (faults_in D.faults (W.house actor.old))
+        paused.way.txn.0
+        (known (W.own actor.old) (W.house actor.old)) (known (W.own actor.new) (W.house actor.new))
+        (Finishes D.told (W.house actor.new) paused) result }
     ensures answered { IsToldHouse D.told (W.house actor.old).house → IfOk result (AnswersTruly paused.way.txn.0 (W.house actor.new)) }
     ensures alone { ActsAlone W.between W.meanwhile → IsHeldBySome (entries_of (W.house actor.old).house) paused
         → (IsToldHouse D.told (W.house actor.old).house → IsTrulyHeld (entries_of (W.house actor.old).house) paused)
@@ -419,8 +437,9 @@ pub fn finish<D: Shelf + Drop, W: Actor<D, ToldHouse<D>>>(
             result
         }
         Point::Meant(meaning) => {
+            let result = end_as(alloc, actor, way, &tree, meaning);
             discard(tree);
-            end_as(alloc, actor, way, meaning)
+            result
         }
         Point::Ready(ready) => {
             discard(tree);

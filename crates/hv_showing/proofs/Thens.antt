@@ -122,7 +122,7 @@ module _ (position : ℕ) where
   starts-late : (state : State) (number : ℕ) → position ≤ state.entries → (t : Transaction) → start_then (while_open (started state number) t) ≡ start_then t
   starts-late state number late t = by t.ending
     where
-      new : (o : Option Snapshot) → is_before position (option_map snapshot_place (first_of o (record { place = state.entries; tables = state.tables })))
+      new : (o : Option Snapshot) → is_before position (option_map snapshot_place (first_of o (record { place = state.entries; tables = state.tables; opened = length state.transactions })))
           ≡ is_before position (option_map snapshot_place o)
       new None = le-ltb state.entries position late
       new (Some s) = refl
@@ -210,7 +210,7 @@ start-below : (state : State) (number : ℕ) (t : Transaction) → IsStartBelow 
 start-below state number t h = by t.snapshot h
   where
     by : (o : Option Snapshot) → IsBelowLimit state.entries (option_map snapshot_place o)
-        → IsBelowLimit (state.entries + 1) (option_map snapshot_place (first_of o (record { place = state.entries; tables = state.tables })))
+        → IsBelowLimit (state.entries + 1) (option_map snapshot_place (first_of o (record { place = state.entries; tables = state.tables; opened = length state.transactions })))
     by None k = let next : state.entries < state.entries + 1 = omega arith in next
     by (Some s) k = let before : s.place < state.entries = k in let next : s.place < state.entries + 1 = omega (arith, before) in next
 

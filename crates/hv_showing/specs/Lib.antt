@@ -1,2 +1,3 @@
+pub use Rattle.hv_earlier as hv_earlier
 pub mod Fronts
 pub mod Marks

@@ -1,6 +1,8 @@
 //! What SHOW lists, read off a book as it was before a place of it.
 #![tactic(auto)]
 
+pub use hv_earlier;
+
 mod fronts;
 mod locks;
 mod marks;

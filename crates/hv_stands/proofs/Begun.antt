@@ -27,8 +27,8 @@ started-runs : (book more : List Entry) (asking : Asking) (said : Stmt) → Runs
     → started (state_of book) 0 (opened asking.session asking.number asking.text)
     ≡ running asking (meant (take (length book) (book ++ more)) said) (snapshot_at (book ++ more) (length book)) []
 started-runs book more asking said runs =
-    (λ i. running asking (means-there book asking.text said runs i) (record { place = entries-are book i; tables = (state_of book).tables }) [])
-    ∙ ap (λ (front : List Entry). running asking (meant front said) (record { place = length book; tables = (state_of front).tables }) [])
+    (λ i. running asking (means-there book asking.text said runs i) (record { place = entries-are book i; tables = (state_of book).tables; opened = length (state_of book).transactions }) [])
+    ∙ ap (λ (front : List Entry). running asking (meant front said) (record { place = length book; tables = (state_of front).tables; opened = length (state_of front).transactions }) [])
     (sym (take-append_seam book more))
 
 pub starts : Starts

@@ -42,7 +42,7 @@ pub front-stays : (book more : List Entry) (asking : Asking) (place : ℕ) (said
     → running asking (meant (take place book) said) (snapshot_at book place) given
     ≡ running asking (meant (take place (book ++ more)) said) (snapshot_at (book ++ more) place) given
 front-stays book more asking place said given early =
-    ap (λ (front : List Entry). running asking (meant front said) (record { place = place; tables = (state_of front).tables }) given)
+    ap (λ (front : List Entry). running asking (meant front said) (record { place = place; tables = (state_of front).tables; opened = length (state_of front).transactions }) given)
     (sym (take-append-le place book more (omega (arith, early))))
 
 -- ---- its transaction

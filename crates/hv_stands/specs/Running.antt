@@ -12,6 +12,8 @@ use Rattle.hv_logic.specs.declared.effect.Effect.{Effect}
 use Rattle.hv_logic.specs.declared.meaning.Meaning.{Meaning}
 use Rattle.hv_history.specs.declared.entry.Entry.{Entry}
 use Rattle.hv_history.specs.declared.entry.Entry.TheVariants as entry
+use Rattle.hv_history.specs.declared.entry.Cause.{Cause}
+use Rattle.hv_history.specs.declared.entry.Cause.TheVariants as cause
 use Rattle.hv_history.specs.declared.state.Ending.{Ending}
 use Rattle.hv_history.specs.declared.state.Ending.TheVariants.{Aborted}
 use Rattle.hv_history.specs.declared.state.Table.{Table}
@@ -39,14 +41,24 @@ opening book asking = entry.Opened (record { 0 = next_number book }) asking.sess
 abbrev pub starting : ℕ → Entry
 starting txn = entry.Start (record { 0 = txn }) 0
 
--- ---- whose an entry is
+-- ---- whose an entry is: whose record it changes, and who adds it
 
 abbrev pub owner_of : Entry → Option ℕ
 owner_of (entry.Opened txn session number text) = Some txn.0
 owner_of event = txn_of event
 
+-- no abort that another transaction asks for
+abbrev pub IsOwnCause : Cause → Type 0
+IsOwnCause (cause.Request by) = ⊥
+IsOwnCause why = Unit {0}
+
+-- an abort that another transaction asks for is added by that one
+abbrev pub adder_of : Entry → Option ℕ
+adder_of (entry.Abort txn (cause.Request by)) = Some by.0
+adder_of event = owner_of event
+
 abbrev pub IsOf : ℕ → Entry → Type 0
-IsOf txn event = owner_of event ≡ Some txn
+IsOf txn event = adder_of event ≡ Some txn
 
 abbrev pub AreOf : ℕ → List Entry → Type 0
 AreOf txn events = AllByRecursion (IsOf txn) events
@@ -64,7 +76,8 @@ meant book tree = means (state_of book) (Some tree)
 
 -- the snapshot at this place of a book
 abbrev pub snapshot_at : List Entry → ℕ → Snapshot
-snapshot_at book place = record { place = place; tables = (state_of (take place book)).tables }
+snapshot_at book place =
+    record { place = place; tables = (state_of (take place book)).tables; opened = length (state_of (take place book)).transactions }
 
 -- ---- how far it has come
 

@@ -10,25 +10,27 @@ use Rattle.hv_history.specs.declared.entry.Cause.TheVariants as cause
 use Rattle.hv_history.specs.Answers.{cause_text}
 use Rattle.hv_history.specs.Legal.{CauseFits, profile}
 use Rattle.hv_stands.proofs.Fitting.{cause-open}
+use Rattle.hv_stands.specs.Running.{IsOwnCause}
 use Rattle.hv_trail.specs.declared.trail.TrailItem.{TrailItem}
 use Rattle.hv_trail.specs.Trail.{book_of, state_at}
 use Rattle.hv_trail.specs.Steps.{Note}
-use Rattle.hv_actor.specs.Acting.{AreRows}
-use Rattle.hv_acts.specs.hv_telling.specs.hv_house.specs.declared.fault.HouseFault.{HouseFault}
-use Rattle.hv_acts.specs.hv_telling.specs.hv_house.specs.declared.fault.HouseFault.TheVariants as fault
-use Rattle.hv_acts.specs.declared.told.ToldHouse.{ToldHouse}
-use Rattle.hv_acts.specs.declared.fault.ActFault.{ActFault}
-use Rattle.hv_acts.specs.declared.fault.ActFault.TheVariants as act
-use Rattle.hv_acts.specs.Told.{trail_in, book_in}
-use Rattle.hv_acts.specs.Answers.{NoTest, Answers, AnswerLeaves, EntryFits, answer_call, answer_outcome, adds_entry}
+use Rattle.hv_actor.specs.Acting.{AreRows, among, known, Held}
+use Rattle.hv_table_reader.specs.hv_acts.specs.hv_telling.specs.hv_house.specs.declared.fault.HouseFault.{HouseFault}
+use Rattle.hv_table_reader.specs.hv_acts.specs.hv_telling.specs.hv_house.specs.declared.fault.HouseFault.TheVariants as fault
+use Rattle.hv_table_reader.specs.hv_acts.specs.declared.told.ToldHouse.{ToldHouse}
+use Rattle.hv_table_reader.specs.hv_acts.specs.declared.fault.ActFault.{ActFault}
+use Rattle.hv_table_reader.specs.hv_acts.specs.Told.{trail_in, book_in, told_sight}
+use Rattle.hv_table_reader.specs.hv_acts.specs.Answers.{NoTest, Answers, AnswerLeaves, EntryFits, answer_call, answer_outcome, adds_entry}
 use Rattle.hv_steps.specs.Ending.{KeepsCount, EndsUncommitted, aborting, HasReplied}
 use Rattle.hv_steps.specs.declared.ready.Reply.{Reply}
 use Rattle.hv_steps.specs.declared.reply.Done.{Done}
 use Rattle.hv_steps.specs.declared.reply.Done.TheVariants as done
 use Rattle.hv_steps.specs.Going.{faults_in, IsOpenHouse, AddsOwn, Goes, CauseKeeps}
-use Rattle.hv_steps.specs.Leaving.{IsLeftFor, EndsAct, IsNeverUnfit, added_by, unaborted}
+use Rattle.hv_table_reader.specs.hv_acts.specs.hv_telling.specs.hv_house.specs.Faults.{EndsRun}
+use Rattle.hv_steps.specs.Leaving.{IsLeftBy, added_by}
 use Rattle.hv_steps.specs.Phases.{AbortsFor, NoCause}
-use Rattle.hv_steps.proofs.Joining.{HeldBy, adds-none, halts-none, halts-for, goes-on}
+use Rattle.hv_table_reader.specs.hv_acts.proofs.Aborts.{own-abort}
+use Rattle.hv_steps.proofs.Joining.{adds-none, halts-none, halts-for, goes-on}
 use Rattle.hv_steps.proofs.Ends.{open-here, abort-replies, replied-now}
 
 -- the entry that an act adds
@@ -47,7 +49,7 @@ cause-kept low high txn why keeps = tt
 module _ {D : Type 0} (told : D → Option Store) (faults : D → ℕ) (meanwhile : ToldHouse D → ToldHouse D → Type 0) (before now : ToldHouse D) (txn : TxnId) (why : Cause) where
   abbrev pub HeldAbort : Result ℕ ActFault → Type 0
   HeldAbort result =
-      HeldBy told faults meanwhile before now (λ seen. answer_call (Note (entry.Abort txn why)) result) (answer_outcome result)
+      Held (told_sight told faults) meanwhile before now (λ seen. answer_call (Note (entry.Abort txn why)) result) (answer_outcome result)
       (λ house after. Answers NoTest house.trail txn (EntryFits house.trail (entry.Abort txn why)) (λ (place : ℕ). place ≡ length (book_of house.trail)) result
       × AnswerLeaves told faults txn.0 house after result)
 
@@ -59,6 +61,24 @@ module _ {D : Type 0} (told : D → Option Store) (faults : D → ℕ) (meanwhil
       replied-now trail (trail_in now) (aborting txn.0 why) txn.0 (cause_text None why) true at held.step.trail held.does_it.0.1
       (abort-replies (book_of trail) txn.0 why uncommitted
       (open-here (book_of trail) txn.0 (CauseFits profile (state_at trail) txn.0 why) (cause-open profile (state_at trail) txn.0 why) held.does_it.0.0))
+
+-- ---- it is its own
+
+pub uncommitted-own : (why : Cause) → EndsUncommitted why → IsOwnCause why
+uncommitted-own (cause.Refused number) ends = tt
+uncommitted-own (cause.Conflict by table partition) ends = absurd ends
+uncommitted-own (cause.Request by) ends = absurd ends
+uncommitted-own cause.Full ends = tt
+uncommitted-own (cause.Twice partition row) ends = tt
+uncommitted-own (cause.Blocked holder) ends = tt
+uncommitted-own (cause.ReadFault count) ends = tt
+uncommitted-own (cause.WriteFault count) ends = tt
+uncommitted-own (cause.Damaged place) ends = tt
+uncommitted-own cause.RowLimit ends = tt
+uncommitted-own cause.PartitionLimit ends = tt
+uncommitted-own cause.Memory ends = tt
+uncommitted-own cause.Lost ends = tt
+uncommitted-own cause.Rollback ends = tt
 
 -- ---- what comes of it
 
@@ -80,20 +100,21 @@ aborts-as txn now first Causes Others f (done.Replied reply) added is = (
   },
   is.3,
 )
-aborts-as txn now first Causes Others f (done.Gone at) added is = is
+aborts-as txn now first Causes Others f (done.Gone reply) added is = is
 
 module _ {D : Type 0} (told : D → Option Store) (faults : D → ℕ) (B : List TrailItem → Type 0) (rows : AreRows B)
     (meanwhile : ToldHouse D → ToldHouse D → Type 0) (low txn : ℕ) (own own' : List ℕ) (before now : ToldHouse D) (Causes : Cause → Type 0) where
   -- it was aborted by one act
-  pub replied-goes : (why : Cause) (reply : Reply) → AddsOwn faults B own own' before now (aborting txn why ∷ []) → IsOpenHouse now
+  pub replied-goes : (why : Cause) (reply : Reply) → IsOwnCause why → AddsOwn faults B txn (known own before) (known own' now) (aborting txn why ∷ [])
+      → IsOpenHouse now
       → KeepsCount low (faults_in faults now) (aborting txn why) → Causes why ⊎ (why ≡ cause.Memory)
       → HasReplied (book_in now) txn reply.text reply.refused reply.ended
-      → Goes told faults B meanwhile low txn own own' before now (AbortsFor txn now [] Causes) (Ok (done.Replied reply))
-  replied-goes why reply adds running kept is answered = record {
+      → Goes (among told faults B meanwhile) low txn (known own before) (known own' now) (AbortsFor txn now [] Causes) (Ok (done.Replied reply))
+  replied-goes why reply own_ adds running kept is answered = record {
     done = record {
       added = aborting txn why ∷ [];
       adds = adds;
-      of_it = (refl, tt);
+      of_it = (own-abort (record { 0 = txn }) why own_, tt);
       counts = (kept, tt);
       is = (aborting txn why, refl, record { why = why; is = is; entry_is = refl; answered = answered }, answered.ended_at);
       running = running;
@@ -101,53 +122,40 @@ module _ {D : Type 0} (told : D → Option Store) (faults : D → ℕ) (B : List
     halted = tt;
   }
 
-  -- others had ended it, or the house's call failed
-  pub unaborted-goes : (why : ActFault) → AddsOwn faults B own own' before now [] → IsLeftFor told meanwhile txn now why → EndsAct why → IsNeverUnfit why
-      → Goes told faults B meanwhile low txn own own' before now (AbortsFor txn now [] Causes) (unaborted why)
-  unaborted-goes (act.Ended at) adds left ends never = record {
-    done = record { added = []; adds = adds; of_it = tt; counts = tt; is = (refl, left.1); running = left.0 };
-    halted = tt;
-  }
-  unaborted-goes (act.Full entries) adds left ends never = absurd never
-  unaborted-goes (act.Held by) adds left ends never = absurd never
-  unaborted-goes (act.Broken put count) adds left ends never = absurd never
-  unaborted-goes act.Unfit adds left ends never = absurd never
-  unaborted-goes (act.House why) adds left ends never = record {
+  -- the house's call failed
+  pub failed-goes : (why : HouseFault) → AddsOwn faults B txn (known own before) (known own' now) [] → IsLeftBy told meanwhile txn now why → EndsRun why
+      → Goes (among told faults B meanwhile) low txn (known own before) (known own' now) (AbortsFor txn now [] Causes) (Err why)
+  failed-goes why adds left ends = record {
     done = tt;
     halted = halts-none faults B rows told meanwhile txn own own' before now why adds (halts-for faults B rows told meanwhile txn now why ends left);
   }
 
   -- the same of what is answered
   pub aborted-goes : (why : Cause) (found : Done) (text : List ℕ) (at : ℕ) → found ≡ done.Replied (record { text = text; refused = true; ended = Some at })
-      → text ≡ cause_text None why → AddsOwn faults B own own' before now (aborting txn why ∷ []) → IsOpenHouse now
+      → text ≡ cause_text None why → IsOwnCause why → AddsOwn faults B txn (known own before) (known own' now) (aborting txn why ∷ []) → IsOpenHouse now
       → KeepsCount low (faults_in faults now) (aborting txn why) → Causes why ⊎ (why ≡ cause.Memory)
       → HasReplied (book_in now) txn (cause_text None why) true (Some at)
-      → Goes told faults B meanwhile low txn own own' before now (AbortsFor txn now [] Causes) (Ok found)
-  aborted-goes why found text at e text_is adds running kept is answered =
-      subst (λ (f : Done). Goes told faults B meanwhile low txn own own' before now (AbortsFor txn now [] Causes) (Ok f)) (sym e)
-      (replied-goes why (record { text = text; refused = true; ended = Some at }) adds running kept is
+      → Goes (among told faults B meanwhile) low txn (known own before) (known own' now) (AbortsFor txn now [] Causes) (Ok found)
+  aborted-goes why found text at e text_is own_ adds running kept is answered =
+      subst (λ (f : Done). Goes (among told faults B meanwhile) low txn (known own before) (known own' now) (AbortsFor txn now [] Causes) (Ok f)) (sym e)
+      (replied-goes why (record { text = text; refused = true; ended = Some at }) own_ adds running kept is
       (subst (λ (line : List ℕ). HasReplied (book_in now) txn line true (Some at)) (sym text_is) answered))
-
-  pub refused-goes : (why : ActFault) (result : Result Done HouseFault) → result ≡ unaborted why → AddsOwn faults B own own' before now []
-      → IsLeftFor told meanwhile txn now why → EndsAct why → IsNeverUnfit why
-      → Goes told faults B meanwhile low txn own own' before now (AbortsFor txn now [] Causes) result
-  refused-goes why result e adds left ends never =
-      subst (Goes told faults B meanwhile low txn own own' before now (AbortsFor txn now [] Causes)) (sym e) (unaborted-goes why adds left ends never)
 
 module _ {D : Type 0} (told : D → Option Store) (faults : D → ℕ) (B : List TrailItem → Type 0) (rows : AreRows B)
     (meanwhile : ToldHouse D → ToldHouse D → Type 0) (low txn : ℕ) where
   -- memory lacked even for that
   pub lacks-goes : (own : List ℕ) (house : ToldHouse D) (Is : Done → List Entry → Type 0) → IsOpenHouse house
-      → Goes told faults B meanwhile low txn own own house house Is (Err fault.NoMemory)
+      → Goes (among told faults B meanwhile) low txn (known own house) (known own house) Is (Err fault.NoMemory)
   lacks-goes own house Is running = record {
     done = tt;
     halted = halts-none faults B rows told meanwhile txn own own house house fault.NoMemory (adds-none faults B rows own house) running;
   }
 
   -- an abort for want of memory behind an act that added nothing
-  pub behind-goes : (own own' own'' : List ℕ) (a b c : ToldHouse D) (Causes : Cause → Type 0) (result : Result Done HouseFault) → AddsOwn faults B own own' a b []
-      → Goes told faults B meanwhile low txn own' own'' b c (AbortsFor txn c [] NoCause) result
-      → Goes told faults B meanwhile low txn own own'' a c (AbortsFor txn c [] Causes) result
+  pub behind-goes : (own own' own'' : List ℕ) (a b c : ToldHouse D) (Causes : Cause → Type 0) (result : Result Done HouseFault)
+      → AddsOwn faults B txn (known own a) (known own' b) []
+      → Goes (among told faults B meanwhile) low txn (known own' b) (known own'' c) (AbortsFor txn c [] NoCause) result
+      → Goes (among told faults B meanwhile) low txn (known own a) (known own'' c) (AbortsFor txn c [] Causes) result
   behind-goes own own' own'' a b c Causes result adds goes =
       goes-on faults B rows told meanwhile low low txn own own' own'' a b c (AbortsFor txn c [] NoCause) (AbortsFor txn c [] Causes) result (omega arith) adds
       (λ found more is. aborts-as txn c [] NoCause Causes (λ why never. absurd never) found more is) goes

@@ -8,9 +8,9 @@ use Rattle.hv_history.specs.declared.entry.Cause.TheVariants as cause
 use Rattle.hv_history.specs.State.{State, after, state_of, nothing_yet}
 use Rattle.hv_history.specs.Legal.{AllFit, AllTruthful, IsTruthful, IsLegalFrom, profile}
 use Rattle.hv_stands.specs.Statements.{AllFitting}
-use Rattle.hv_acts.specs.hv_telling.specs.hv_house.proofs.Faithful.{truthful-from}
+use Rattle.hv_table_reader.specs.hv_acts.specs.hv_telling.specs.hv_house.proofs.Faithful.{truthful-from}
 use Rattle.hv_steps.specs.Ending.{KeepsCount}
-use Rattle.hv_acts.specs.Meant.{IsNoEnd}
+use Rattle.hv_table_reader.specs.hv_acts.specs.Meant.{IsNoEnd}
 
 -- ---- facts of each entry
 
@@ -36,11 +36,11 @@ begun-counts low high (entry.Start txn statement) begun = tt
 begun-counts low high (entry.Given txn table write) begun = tt
 begun-counts low high event begun = absurd begun
 
-pub begun-unended : (event : Entry) → IsBegun event → IsNoEnd event
-begun-unended (entry.Opened txn session number text) begun = tt
-begun-unended (entry.Start txn statement) begun = tt
-begun-unended (entry.Given txn table write) begun = tt
-begun-unended event begun = absurd begun
+pub begun-unended : (txn : ℕ) (event : Entry) → IsBegun event → IsNoEnd txn event
+begun-unended own (entry.Opened txn session number text) begun = tt
+begun-unended own (entry.Start txn statement) begun = tt
+begun-unended own (entry.Given txn table write) begun = tt
+begun-unended own event begun = absurd begun
 
 pub begun-true : (s : State) (event : Entry) → IsBegun event → IsTruthful s event
 begun-true s (entry.Opened txn session number text) begun = tt

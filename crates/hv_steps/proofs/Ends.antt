@@ -20,9 +20,9 @@ use Rattle.hv_trail.specs.declared.trail.TrailItem.TheVariants.{Noted}
 use Rattle.hv_trail.specs.Trail.{book_of, state_at}
 use Rattle.hv_trail.proofs.LastingLaws.{book-append, goes-on-front}
 use Rattle.hv_meta.specs.States.{state_by, transaction_state}
-use Rattle.hv_acts.specs.declared.fault.ActFault.{ActFault}
-use Rattle.hv_acts.specs.declared.fault.ActFault.TheVariants as act
-use Rattle.hv_acts.specs.Answers.{NoTest, IsWhy, EntryFits, HasNotEnded}
+use Rattle.hv_table_reader.specs.hv_acts.specs.declared.fault.ActFault.{ActFault}
+use Rattle.hv_table_reader.specs.hv_acts.specs.declared.fault.ActFault.TheVariants as act
+use Rattle.hv_table_reader.specs.hv_acts.specs.Answers.{NoTest, IsWhy, EntryFits, HasNotEnded}
 use Rattle.hv_steps.specs.Ending.{IsEndOf, HasEndedAt, HasReplied, aborting, creating, dropping, EndsUncommitted}
 use Rattle.hv_steps.specs.Going.{WasSo, HasWaited, WasOpened}
 use Rattle.hv_steps.specs.Leaving.{IsNeverUnfit}

@@ -23,20 +23,21 @@ use Rattle.hv_trail.specs.declared.trail.TrailItem.{TrailItem}
 use Rattle.hv_trail.specs.declared.trail.TrailItem.TheVariants.{Marked}
 use Rattle.hv_trail.specs.Trail.{book_of}
 use Rattle.hv_trail.specs.Steps.{HouseSeen, Put}
-use Rattle.hv_actor.specs.Acting.{IsLater, Went, AreRows}
-use Rattle.hv_acts.specs.hv_telling.specs.hv_house.specs.declared.fault.HouseFault.TheVariants as fault
-use Rattle.hv_acts.specs.hv_telling.specs.Telling.{IsTold}
-use Rattle.hv_acts.specs.declared.told.ToldHouse.{ToldHouse}
-use Rattle.hv_acts.specs.declared.fault.ActFault.{ActFault}
-use Rattle.hv_acts.specs.declared.fault.ActFault.TheVariants as act
-use Rattle.hv_acts.specs.Told.{seen_in, trail_in}
-use Rattle.hv_acts.specs.Answers.{answer_call, answer_outcome, NoTest, Answers, AnswerLeaves, WhyRises}
-use Rattle.hv_acts.specs.Putting.{HasIdFor, adds_file}
-use Rattle.hv_acts.specs.Meant.{RunsWith, IsFileMeant}
+use Rattle.hv_actor.specs.Acting.{IsLater, Went, AreRows, known, Moment, Held}
+use Rattle.hv_table_reader.specs.hv_acts.specs.hv_telling.specs.hv_house.specs.declared.fault.HouseFault.TheVariants as fault
+use Rattle.hv_table_reader.specs.hv_acts.specs.hv_telling.specs.Telling.{IsTold}
+use Rattle.hv_table_reader.specs.hv_acts.specs.declared.told.ToldHouse.{ToldHouse}
+use Rattle.hv_table_reader.specs.hv_acts.specs.declared.fault.ActFault.{ActFault}
+use Rattle.hv_table_reader.specs.hv_acts.specs.declared.fault.ActFault.TheVariants as act
+use Rattle.hv_table_reader.specs.hv_acts.specs.Told.{seen_in, trail_in, told_sight}
+use Rattle.hv_table_reader.specs.hv_acts.specs.Answers.{answer_call, answer_outcome, NoTest, Answers, AnswerLeaves, WhyRises}
+use Rattle.hv_table_reader.specs.hv_acts.specs.Putting.{HasIdFor, adds_file}
+use Rattle.hv_table_reader.specs.hv_acts.specs.Meant.{RunsWith, IsFileMeant}
+use Rattle.hv_table_reader.specs.hv_acts.proofs.Mine.{file-mine}
 use Rattle.hv_steps.specs.Going.{faults_in, IsOpenHouse, AddsOwn}
 use Rattle.hv_steps.specs.Leaving.{IsLeft}
 use Rattle.hv_steps.specs.Preparing.{with_place, FileFailed, IsRefusal, HasItsId, IsFileDue, AreFilesDue, ArePutUpTo}
-use Rattle.hv_steps.proofs.Joining.{RisesBy, answers-name, HeldBy, act-left, act-risen, held-adds, found-told, adds-none, adds-more, adds-front, told-earlier}
+use Rattle.hv_steps.proofs.Joining.{RisesBy, answers-name, act-left, act-risen, held-adds, found-told, adds-none, adds-more, adds-front, told-earlier}
 use Rattle.hv_steps.proofs.Ids.{meant-lasts, given-lasts}
 
 -- ---- what lasts
@@ -85,7 +86,8 @@ module _ {D : Type 0} (told : D → Option Store) (faults : D → ℕ) (meanwhil
 
   abbrev PutHeld : Result (Unit {0}) ActFault → Type 0
   PutHeld result =
-      HeldBy told faults meanwhile before now (λ (seen : HouseSeen D). answer_call (Put (Txn txn) place (bytes_of file)) result) (answer_outcome result)
+      Held (told_sight told faults) meanwhile before now (λ (seen : HouseSeen D). answer_call (Put (Txn txn) place (bytes_of file)) result)
+      (answer_outcome result)
       (λ (a : HouseSeen D) (b : HouseSeen D). Answers NoTest a.trail txn (RunsWith a.trail txn 1) (λ done. IsEncoded file) result
       × AnswerLeaves told faults txn.0 a b result × IfErr result (WhyRises faults a))
 
@@ -103,7 +105,7 @@ module _ {D : Type 0} (told : D → Option Store) (faults : D → ℕ) (meanwhil
       omega (arith, rises, held.step.counts.0)
 
   pub put-adds : (B : List TrailItem → Type 0) (own own' : List ℕ) (result : Result (Unit {0}) ActFault) → PutHeld result
-      → Went B (adds_file txn place result) own own' (trail_in before) (trail_in now) → AddsOwn faults B own own' before now []
+      → Went B (adds_file txn place result) own own' (trail_in before) (trail_in now) → AddsOwn faults B txn.0 (known own before) (known own' now) []
   put-adds B own own' result held went =
       held-adds told faults meanwhile goes before now B (λ (seen : HouseSeen D). answer_call (Put (Txn txn) place (bytes_of file)) result) (answer_outcome result)
       (λ (a : HouseSeen D) (b : HouseSeen D). Answers NoTest a.trail txn (RunsWith a.trail txn 1) (λ done. IsEncoded file) result
@@ -112,6 +114,7 @@ module _ {D : Type 0} (told : D → Option Store) (faults : D → ℕ) (meanwhil
       (act-risen told faults meanwhile goes before now (λ (seen : HouseSeen D). answer_call (Put (Txn txn) place (bytes_of file)) result) result
       (λ (a : HouseSeen D) (b : HouseSeen D). Answers NoTest a.trail txn (RunsWith a.trail txn 1) (λ done. IsEncoded file) result
       × AnswerLeaves told faults txn.0 a b result × IfErr result (WhyRises faults a)) txn.0 held held.does_it.1)
+      (file-mine txn place result)
 
   pub put-left : (result : Result (Unit {0}) ActFault) → PutHeld result → IsOpenHouse before → IsLeft told meanwhile txn.0 now result
   put-left result held running =
@@ -173,21 +176,23 @@ pub refused-lacking : {D : Type 0} (told : D → Option Store) (faults : D → �
 refused-lacking told faults meanwhile low txn now running = record { left = running; file = tt }
 
 -- the first so many of these files were put by one's own acts, at these places
-pub record PutsUpTo {D : Type 0} (faults : D → ℕ) (B : List TrailItem → Type 0) (own own' : List ℕ) (first now : ToldHouse D) (table write : ℕ) (files : List OutFile)
-    (places : List Place) : Type 0 where
-  pub adds : AddsOwn faults B own own' first now []
-  pub running : IsOpenHouse now
-  pub put : ArePutUpTo table write files places
+pub record PutsUpTo {D : Type 0} (faults : D → ℕ) (B : List TrailItem → Type 0) (by : ℕ) (first now : Moment (ToldHouse D)) (Is : Type 0) : Type 0 where
+  pub adds : AddsOwn faults B by first now []
+  pub running : IsOpenHouse now.house
+  pub put : Is
 
 module _ {D : Type 0} (told : D → Option Store) (faults : D → ℕ) (B : List TrailItem → Type 0) (rows : AreRows B) where
-  pub puts-none : (own : List ℕ) (house : ToldHouse D) (table write : ℕ) (places : List Place) → IsOpenHouse house → places ≡ []
-      → PutsUpTo faults B own own house house table write [] places
+  pub puts-none : {by : ℕ} (own : List ℕ) (house : ToldHouse D) (table write : ℕ) (places : List Place) → IsOpenHouse house → places ≡ []
+      → PutsUpTo faults B by (known own house) (known own house) (ArePutUpTo table write [] places)
   puts-none own house table write places running none =
       record { adds = adds-none faults B rows own house; running = running; put = record { places_are = none; encoded = tt } }
 
-  pub puts-more : (own own' own'' : List ℕ) (first mid now : ToldHouse D) (table write : ℕ) (files : List OutFile) (file : OutFile) (places places' : List Place)
-      → PutsUpTo faults B own own' first mid table write files places → AddsOwn faults B own' own'' mid now [] → IsOpenHouse now → HasFile file
-      → places' ≡ places ++ place_of_file table write file ∷ [] → PutsUpTo faults B own own'' first now table write (files ++ file ∷ []) places'
+  pub puts-more : {by : ℕ} (own own' own'' : List ℕ) (first mid now : ToldHouse D) (table write : ℕ) (files : List OutFile) (file : OutFile)
+      (places places' : List Place)
+      → PutsUpTo faults B by (known own first) (known own' mid) (ArePutUpTo table write files places)
+      → AddsOwn faults B by (known own' mid) (known own'' now) [] → IsOpenHouse now → HasFile file
+      → places' ≡ places ++ place_of_file table write file ∷ [] → PutsUpTo faults B by (known own first) (known own'' now)
+      (ArePutUpTo table write (files ++ file ∷ []) places')
   puts-more own own' own'' first mid now table write files file places places' done adds running has is = record {
     adds = adds-more faults B rows own own' own'' first mid now [] [] done.adds adds;
     running = running;
@@ -200,7 +205,7 @@ module _ {D : Type 0} (told : D → Option Store) (faults : D → ℕ) (B : List
 
   -- each of the files is due still
   pub due-still : (own own' : List ℕ) (first mid : ToldHouse D) (txn : TxnId) (table write : ℕ) (files : List OutFile) (file : OutFile)
-      → AddsOwn faults B own own' first mid [] → AreFilesDue told first txn table write files
+      → AddsOwn faults B txn.0 (known own first) (known own' mid) [] → AreFilesDue told first txn table write files
       → ((P : OutFile → Type 0) → AllByRecursion P files → P file) → IsFileDue told mid txn (place_of_file table write file) file
   due-still own own' first mid txn table write files file adds due one = record {
     table = table;

@@ -18,24 +18,25 @@ use Rattle.hv_trail.specs.declared.trail.TrailItem.TheVariants.{Noted}
 use Rattle.hv_trail.specs.Trail.{book_of}
 use Rattle.hv_trail.specs.Steps.{HouseSeen, MayEnd}
 use Rattle.hv_trail.proofs.KeptLaws.{trail-book}
-use Rattle.hv_actor.specs.Acting.{IsLater, Went}
-use Rattle.hv_acts.specs.hv_telling.specs.hv_house.specs.declared.fault.HouseFault.TheVariants as fault
-use Rattle.hv_acts.specs.hv_telling.specs.Telling.{IsTold, IsToldHouse}
-use Rattle.hv_acts.specs.declared.told.ToldHouse.{ToldHouse}
-use Rattle.hv_acts.specs.declared.fault.ActFault.{ActFault}
-use Rattle.hv_acts.specs.declared.fault.ActFault.TheVariants as act
-use Rattle.hv_acts.specs.declared.giving.Given.{Given}
-use Rattle.hv_acts.specs.declared.giving.Given.TheVariants as given
-use Rattle.hv_acts.specs.Told.{seen_in, trail_in}
-use Rattle.hv_acts.specs.Answers.{answer_outcome, NoTest, AnswerLeaves}
-use Rattle.hv_acts.specs.Giving.{to_give, call_to_give, adds_given, RestsOnId, GiveAnswers}
-use Rattle.hv_acts.specs.Meant.{HasMeant, IsIdDue}
+use Rattle.hv_actor.specs.Acting.{IsLater, Went, known, Held}
+use Rattle.hv_table_reader.specs.hv_acts.specs.hv_telling.specs.hv_house.specs.declared.fault.HouseFault.TheVariants as fault
+use Rattle.hv_table_reader.specs.hv_acts.specs.hv_telling.specs.Telling.{IsTold, IsToldHouse}
+use Rattle.hv_table_reader.specs.hv_acts.specs.declared.told.ToldHouse.{ToldHouse}
+use Rattle.hv_table_reader.specs.hv_acts.specs.declared.fault.ActFault.{ActFault}
+use Rattle.hv_table_reader.specs.hv_acts.specs.declared.fault.ActFault.TheVariants as act
+use Rattle.hv_table_reader.specs.hv_acts.specs.declared.giving.Given.{Given}
+use Rattle.hv_table_reader.specs.hv_acts.specs.declared.giving.Given.TheVariants as given
+use Rattle.hv_table_reader.specs.hv_acts.specs.Told.{seen_in, trail_in, told_sight}
+use Rattle.hv_table_reader.specs.hv_acts.specs.Answers.{answer_outcome, NoTest, AnswerLeaves}
+use Rattle.hv_table_reader.specs.hv_acts.specs.Giving.{to_give, call_to_give, adds_given, RestsOnId, GiveAnswers}
+use Rattle.hv_table_reader.specs.hv_acts.specs.Meant.{HasMeant, IsIdDue}
+use Rattle.hv_table_reader.specs.hv_acts.proofs.Mine.{given-mine}
 use Rattle.hv_steps.specs.Ending.{aborting}
 use Rattle.hv_steps.specs.declared.ready.Way.{Way}
 use Rattle.hv_steps.specs.Going.{faults_in, IsOpenHouse, AddsOwn}
 use Rattle.hv_steps.specs.Leaving.{IsLeft, EndsAct}
 use Rattle.hv_steps.specs.Preparing.{given_entries, ComesToChange, FileFailed, IsRefusal, HasItsId, IsGivenSo}
-use Rattle.hv_steps.proofs.Joining.{front-more, note-ends, NamesEnd, why-names, ends-rise, HeldBy, act-left, act-risen, held-adds, found-told}
+use Rattle.hv_steps.proofs.Joining.{front-more, note-ends, NamesEnd, why-names, ends-rise, act-left, act-risen, held-adds, found-told}
 use Rattle.hv_steps.proofs.Ids.{meant-lasts, way-means, way-means-some, table-here, table-lasts, StillMeans, GivenMeans, given-named, given-meant, given-has, full-answered}
 
 -- ---- its answer
@@ -102,7 +103,7 @@ module _ {D : Type 0} (told : D → Option Store) (faults : D → ℕ) (meanwhil
 
   abbrev GiveHeld : Result Given ActFault → Type 0
   GiveHeld result =
-      HeldBy told faults meanwhile before now (λ (seen : HouseSeen D). call_to_give seen.trail way.txn info.table result) (answer_outcome result)
+      Held (told_sight told faults) meanwhile before now (λ (seen : HouseSeen D). call_to_give seen.trail way.txn info.table result) (answer_outcome result)
       (λ (a : HouseSeen D) (b : HouseSeen D). GiveAnswers a.trail way.txn info.table result × AnswerLeaves told faults way.txn.0 a b result)
 
   pub give-left : (result : Result Given ActFault) → GiveHeld result → IsOpenHouse before → IsLeft told meanwhile way.txn.0 now result
@@ -112,7 +113,8 @@ module _ {D : Type 0} (told : D → Option Store) (faults : D → ℕ) (meanwhil
       held running (give-names (trail_in held.house) way.txn info.table result held.does_it.0) held.does_it.1
 
   pub give-adds : (B : List TrailItem → Type 0) (own own' : List ℕ) (result : Result Given ActFault) → GiveHeld result
-      → Went B (adds_given way.txn info.table result) own own' (trail_in before) (trail_in now) → AddsOwn faults B own own' before now (given_entries way.txn.0 info.table result)
+      → Went B (adds_given way.txn info.table result) own own' (trail_in before) (trail_in now)
+      → AddsOwn faults B way.txn.0 (known own before) (known own' now) (given_entries way.txn.0 info.table result)
   give-adds B own own' result held went =
       held-adds told faults meanwhile goes before now B (λ (seen : HouseSeen D). call_to_give seen.trail way.txn info.table result) (answer_outcome result)
       (λ (a : HouseSeen D) (b : HouseSeen D). GiveAnswers a.trail way.txn info.table result × AnswerLeaves told faults way.txn.0 a b result)
@@ -120,6 +122,7 @@ module _ {D : Type 0} (told : D → Option Store) (faults : D → ℕ) (meanwhil
       (ends-rise result (faults_in faults held.house) (faults_in faults now) (give-ends (trail_in held.house) way.txn info.table result held.step.may))
       (act-risen told faults meanwhile goes before now (λ (seen : HouseSeen D). call_to_give seen.trail way.txn info.table result) result
       (λ (a : HouseSeen D) (b : HouseSeen D). GiveAnswers a.trail way.txn info.table result × AnswerLeaves told faults way.txn.0 a b result) way.txn.0 held held.does_it.1)
+      (given-mine (trail_in held.house) way.txn info.table result held.does_it.0)
 
   module _ (still : StillMeans) (more : GivenMeans) where
     id-so : (write : WriteId) → GiveHeld (Ok (given.Id write)) → HasItsId told now way.txn info effect write.0

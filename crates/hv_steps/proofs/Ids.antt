@@ -36,13 +36,14 @@ use Rattle.hv_trail.specs.declared.trail.TrailItem.TheVariants.{Noted}
 use Rattle.hv_trail.specs.Trail.{book_of, state_at}
 use Rattle.hv_trail.specs.Lasting.{Has, IsGiven}
 use Rattle.hv_trail.proofs.LastingLaws.{book-append, goes-on-front, lasts, given-keeps}
-use Rattle.hv_acts.specs.hv_telling.specs.Telling.{IsToldHouse}
-use Rattle.hv_acts.specs.declared.told.ToldHouse.{ToldHouse}
-use Rattle.hv_acts.specs.Told.{trail_in, book_in}
-use Rattle.hv_acts.specs.Answers.{next_id}
-use Rattle.hv_acts.specs.Giving.{GivenFits, IsAbortedFull}
-use Rattle.hv_acts.specs.Meant.{HasMeant, MeansNow, RunsWith}
-use Rattle.hv_acts.specs.declared.aborted.Aborted.{Aborted}
+use Rattle.hv_table_reader.specs.hv_acts.specs.hv_telling.specs.Telling.{IsToldHouse}
+use Rattle.hv_table_reader.specs.hv_acts.specs.declared.told.ToldHouse.{ToldHouse}
+use Rattle.hv_table_reader.specs.hv_acts.specs.Told.{trail_in, book_in}
+use Rattle.hv_table_reader.specs.hv_acts.specs.Passing.{HasAskedAll}
+use Rattle.hv_table_reader.specs.hv_acts.specs.Answers.{next_id}
+use Rattle.hv_table_reader.specs.hv_acts.specs.Giving.{GivenFits, IsAbortedFull}
+use Rattle.hv_table_reader.specs.hv_acts.specs.Meant.{HasMeant, MeansNow, RunsWith}
+use Rattle.hv_table_reader.specs.hv_acts.specs.declared.aborted.Aborted.{Aborted}
 use Rattle.hv_steps.specs.Ending.{CanChange, CanEnd, HasReplied}
 use Rattle.hv_steps.specs.declared.ready.Way.{Way}
 use Rattle.hv_steps.proofs.Standing.{some-more, means-still, abort-answered}
@@ -95,6 +96,13 @@ pub comes-means : {D : Type 0} (told : D → Option Store) (house : ToldHouse D)
     → ComesTo told house way said m → m ≡ means → IsToldHouse told house.house → HasMeant (trail_in house) way.txn [] means
 comes-means told house asking way said m means was comes same is =
     way-means (trail_in house) asking way said means was (comes.truly is ∙ ap (λ (x : Meaning). Some x) same)
+
+-- where it has asked for all aborts that its text lists, it has so as what it meant there
+pub comes-asked : {D : Type 0} (told : D → Option Store) (house : ToldHouse D) (asking : Asking) (way : Way) (said : Stmt) (m means : Meaning) → WasOnWay (trail_in house) asking way said
+    → ComesTo told house way said m → m ≡ means → HasAskedAll (trail_in house) way.txn way.place said means → IsToldHouse told house.house
+    → (has : HasMeant (trail_in house) way.txn [] means) × HasAskedAll (trail_in house) way.txn has.was.place has.was.said means
+unfolding comes-means way-means
+comes-asked told house asking way said m means was comes same asked is = (comes-means told house asking way said m means was comes same is, asked)
 
 -- a change can be ended
 pub comes-change : {D : Type 0} (told : D → Option Store) (house : ToldHouse D) (asking : Asking) (way : Way) (said : Stmt) (m : Meaning) (info : TableInfo) (effect : Effect)

@@ -1,8 +1,7 @@
 -- What one act leaves, what several leave one behind the other, and what was so and is so still.
-use Rattle.std.proofs.Common.{◌≡◌, ◌⊎◌, inl, inr, ℕ, ◌≤◌, Bool, true, false, ◌||◌, Option, List, [], ◌∷◌, ◌++◌, refl, sym, ap, ◌∙◌, subst, append-nil, append_assoc, le_trans, true≢false, arith, Ok, Err, Result}
+use Rattle.std.proofs.Common.{◌≡◌, ◌⊎◌, inl, inr, ℕ, ◌≤◌, Bool, true, false, ◌||◌, Option, List, [], ◌∷◌, ◌++◌, refl, sym, ap, ◌∙◌, subst, append-nil, append_assoc, le_trans, arith, Ok, Err, Result}
 use Rattle.std.specs.Prelude.{IfErr}
 use Rattle.std.specs.List.{AllByRecursion}
-use Rattle.hv_base.specs.Faults.{Rose}
 use Rattle.hv_base.specs.declared.ids.TxnId.{TxnId}
 use Rattle.hv_shelf.specs.Disk.{Store}
 use Rattle.hv_ast.specs.declared.statement.Stmt.{Stmt}
@@ -13,24 +12,27 @@ use Rattle.hv_history.specs.Lasting.{IsFront}
 use Rattle.hv_stands.specs.Running.{Asking, IsOf, AreOf, IsWaiting, IsUnderWay}
 use Rattle.hv_trail.specs.declared.trail.TrailItem.{TrailItem}
 use Rattle.hv_trail.specs.Trail.{book_of}
+use Rattle.hv_trail.specs.Own.{IsOf as IsMine}
 use Rattle.hv_trail.specs.Steps.{HouseSeen, Call, Note, Begin, Commit, Put, Remove, Read, Ask, Outcome, Done, Conflict, Failed, Closed, Refused, MayEnd, Counts, gains, shuts}
 use Rattle.hv_trail.proofs.LastingLaws.{book-append, goes-on-front}
-use Rattle.hv_actor.specs.Acting.{IsLater, Held, Went, AreRows}
+use Rattle.hv_actor.specs.Acting.{IsLater, Held, Went, AreRows, among, known}
 use Rattle.hv_actor.specs.Rows.{later_itself}
 use Rattle.hv_actor.proofs.Weaving.{went-more, later-further}
-use Rattle.hv_acts.specs.hv_telling.specs.hv_house.specs.declared.fault.HouseFault.{HouseFault}
-use Rattle.hv_acts.specs.hv_telling.specs.hv_house.specs.declared.fault.HouseFault.TheVariants as fault
-use Rattle.hv_acts.specs.hv_telling.specs.hv_house.specs.Steps.{fault_outcome}
-use Rattle.hv_acts.specs.hv_telling.specs.Telling.{IsTold, IsToldHouse}
-use Rattle.hv_acts.specs.declared.told.ToldHouse.{ToldHouse}
-use Rattle.hv_acts.specs.declared.fault.ActFault.{ActFault}
-use Rattle.hv_acts.specs.declared.fault.ActFault.TheVariants as act
-use Rattle.hv_acts.specs.Told.{IsWholeOrClosed, seen_in, trail_in}
-use Rattle.hv_acts.specs.Answers.{Test, IsWhy, Answers, IsCutShort, FaultLeaves, AnswerLeaves, answer_call, answer_outcome}
-use Rattle.hv_acts.proofs.Leaves.{answer-rises}
+use Rattle.hv_table_reader.specs.hv_acts.specs.hv_telling.specs.hv_house.specs.declared.fault.HouseFault.{HouseFault}
+use Rattle.hv_table_reader.specs.hv_acts.specs.hv_telling.specs.hv_house.specs.declared.fault.HouseFault.TheVariants as fault
+use Rattle.hv_table_reader.specs.hv_acts.specs.hv_telling.specs.hv_house.specs.Steps.{fault_outcome}
+use Rattle.hv_table_reader.specs.hv_acts.specs.hv_telling.specs.Telling.{IsTold, IsToldHouse}
+use Rattle.hv_table_reader.specs.hv_acts.specs.declared.told.ToldHouse.{ToldHouse}
+use Rattle.hv_table_reader.specs.hv_acts.specs.declared.fault.ActFault.{ActFault}
+use Rattle.hv_table_reader.specs.hv_acts.specs.declared.fault.ActFault.TheVariants as act
+use Rattle.hv_table_reader.specs.hv_acts.specs.Told.{IsWholeOrClosed, seen_in, trail_in, told_sight}
+use Rattle.hv_table_reader.specs.hv_acts.specs.Answers.{Test, IsWhy, Answers, IsCutShort, FaultLeaves, AnswerLeaves, answer_call, answer_outcome}
+use Rattle.hv_table_reader.specs.hv_acts.proofs.Leaves.{answer-rises}
+use Rattle.hv_table_reader.specs.hv_acts.proofs.Mine.{all-mine}
+use Rattle.hv_table_reader.proofs.Holds.{open-behind, ShutsRisen}
 use Rattle.hv_steps.proofs.Books.{all-map as all-as}
 use Rattle.hv_steps.specs.Ending.{KeepsCount}
-use Rattle.hv_acts.specs.Meant.{IsNoEnd}
+use Rattle.hv_table_reader.specs.hv_acts.specs.Meant.{IsNoEnd}
 use Rattle.hv_steps.specs.declared.ready.Way.{Way}
 use Rattle.hv_steps.specs.Going.{faults_in, IsOpenHouse, IsShutHouse, AddsOwn, Gains, IsShutBetween, IsShutNow, HaltsFor, Halts, Goes, WasSo, WasOnWay, HasWaited, WasOpened, IsGone}
 use Rattle.hv_steps.specs.Leaving.{IsLeftBy, IsLeft, EndsAct}
@@ -100,20 +102,6 @@ gains-refused Ask = refl
 stays : (before now gained : List TrailItem) → now ≡ before ++ gained → gained ≡ [] → now ≡ before
 stays before now gained adds none = adds ∙ ap (λ xs. before ++ xs) none ∙ append-nil before
 
--- a house that was open is open behind any call but one whose journal failed
-open-behind : (outcome : Outcome) (before now : Bool) → now ≡ before || shuts outcome → before ≡ false → shuts outcome ≡ false → now ≡ false
-open-behind outcome before now closed running opens = closed ∙ ap (λ (b : Bool). b || shuts outcome) running ∙ opens
-
--- Where the house was open and is closed, its store's count rose.
-abbrev pub ShutsRisen : {D : Type 0} → (D → ℕ) → HouseSeen D → HouseSeen D → Type 0
-ShutsRisen faults before now = before.closed ≡ false → now.closed ≡ true → Rose (faults before.shelf) (faults now.shelf)
-
--- so behind any call but one whose journal failed
-pub opens-risen : {D : Type 0} (faults : D → ℕ) (outcome : Outcome) (before now : HouseSeen D) → now.closed ≡ before.closed || shuts outcome → shuts outcome ≡ false
-    → ShutsRisen faults before now
-opens-risen faults outcome before now closed opens = λ was is.
-    absurd (true≢false (sym is ∙ open-behind outcome before.closed now.closed closed was opens))
-
 -- where a call on files failed, its step says that the store's count rose, or stands at its last value: that it didn't fall is said beside
 abbrev pub RisesBy : Outcome → ℕ → ℕ → Type 0
 RisesBy (Failed count) before now = before ≤ now
@@ -178,12 +166,6 @@ pub answers-why : {T : Type 0} (test : Test) (trail : List TrailItem) (txn : Txn
 answers-why test trail txn Fact is (Ok x) answers = tt
 answers-why test trail txn Fact is (Err why) answers = answers
 
--- one act on a told house, by its clause `held`
-abbrev pub HeldBy : {D : Type 0} → (D → Option Store) → (D → ℕ) → (ToldHouse D → ToldHouse D → Type 0) → ToldHouse D → ToldHouse D → (HouseSeen D → Call) → Outcome
-    → (HouseSeen D → HouseSeen D → Type 0) → Type 0
-HeldBy {D = D} told faults meanwhile before now call outcome does =
-    Held told faults seen_in (λ (h : ToldHouse D). IsWholeOrClosed told h.house) meanwhile before now call outcome does
-
 -- its journal failed, and the house had been open
 pub record FoundOpen {D : Type 0} (told : D → Option Store) (now : ToldHouse D) (Cut : HouseSeen D → HouseSeen D → Type 0) : Type 0 where
   pub house : ToldHouse D
@@ -200,7 +182,7 @@ module _ {D : Type 0} (told : D → Option Store) (faults : D → ℕ) (meanwhil
   reached-front reached = let later = goes before now reached in record { more = later.added; is = later.trail }
 
   pub held-front : (call : HouseSeen D → Call) (outcome : Outcome) (does : HouseSeen D → HouseSeen D → Type 0)
-      (held : HeldBy told faults meanwhile before now call outcome does) → IsFront (trail_in before) (trail_in held.house)
+      (held : Held (told_sight told faults) meanwhile before now call outcome does) → IsFront (trail_in before) (trail_in held.house)
   held-front call outcome does held = let later = goes before held.house held.reached in record { more = later.added; is = later.trail }
 
   pub found-told : (house : ToldHouse D) → meanwhile before house → IsTold told house.house.start.value → IsToldHouse told before.house
@@ -208,7 +190,7 @@ module _ {D : Type 0} (told : D → Option Store) (faults : D → ℕ) (meanwhil
 
   -- and so does what it is then
   pub held-later : (call : HouseSeen D → Call) (outcome : Outcome) (does : HouseSeen D → HouseSeen D → Type 0)
-      (held : HeldBy told faults meanwhile before now call outcome does) → RisesBy outcome (faults_in faults held.house) (faults_in faults now)
+      (held : Held (told_sight told faults) meanwhile before now call outcome does) → RisesBy outcome (faults_in faults held.house) (faults_in faults now)
       → ShutsRisen faults (seen_in held.house) (seen_in now) → IsLater faults (seen_in before) (seen_in now)
   held-later call outcome does held rises shut_so =
       later-further faults (seen_in before) (seen_in held.house) (seen_in now) (goes before held.house held.reached) (record {
@@ -221,24 +203,26 @@ module _ {D : Type 0} (told : D → Option Store) (faults : D → ℕ) (meanwhil
       })
 
   -- what it added is its own
-  pub held-adds : (B : List TrailItem → Type 0) (call : HouseSeen D → Call) (outcome : Outcome) (does : HouseSeen D → HouseSeen D → Type 0)
-      (adds : List TrailItem) (added : List Entry) (own own' : List ℕ) (held : HeldBy told faults meanwhile before now call outcome does)
+  pub held-adds : {by : ℕ} (B : List TrailItem → Type 0) (call : HouseSeen D → Call) (outcome : Outcome) (does : HouseSeen D → HouseSeen D → Type 0)
+      (adds : List TrailItem) (added : List Entry) (own own' : List ℕ) (held : Held (told_sight told faults) meanwhile before now call outcome does)
       → Went B adds own own' (trail_in before) (trail_in now) → book_of adds ≡ added
       → RisesBy outcome (faults_in faults held.house) (faults_in faults now) → ShutsRisen faults (seen_in held.house) (seen_in now)
-      → AddsOwn faults B own own' before now added
-  held-adds B call outcome does adds added own own' held went entries rises shut_so =
+      → AllByRecursion (IsMine by) adds → AddsOwn faults B by (known own before) (known own' now) added
+  held-adds B call outcome does adds added own own' held went entries rises shut_so mine =
       let later = held-later call outcome does held rises shut_so in
-      record { items = adds; went = went; entries = entries; start = later.rest.start; count = later.count; later = later }
+      record { items = adds; went = went; entries = entries; mine = mine; later = later }
 
   -- where an act shut the house, its store's count rose
   pub act-risen : {T : Type 0} (call : HouseSeen D → Call) (result : Result T ActFault) (does : HouseSeen D → HouseSeen D → Type 0) (txn : ℕ)
-      (held : HeldBy told faults meanwhile before now call (answer_outcome result) does) → AnswerLeaves told faults txn (seen_in held.house) (seen_in now) result
+      (held : Held (told_sight told faults) meanwhile before now call (answer_outcome result) does)
+      → AnswerLeaves told faults txn (seen_in held.house) (seen_in now) result
       → ShutsRisen faults (seen_in held.house) (seen_in now)
   act-risen call result does txn held leaves = answer-rises told faults txn result (seen_in held.house) (seen_in now) leaves held.step.closed
 
   -- ---- whether the house is open behind it
 
-  pub shut-found : (call : HouseSeen D → Call) (does Cut : HouseSeen D → HouseSeen D → Type 0) (held : HeldBy told faults meanwhile before now call Closed does)
+  pub shut-found : (call : HouseSeen D → Call) (does Cut : HouseSeen D → HouseSeen D → Type 0)
+      (held : Held (told_sight told faults) meanwhile before now call Closed does)
       → IsOpenHouse before → (IsOpenHouse held.house → Cut (seen_in held.house) (seen_in now)) → IsShutBetween meanwhile ⊎ FoundOpen told now Cut
   shut-found call does Cut held running cut = by held.house.house.trail.closed refl
     where
@@ -257,8 +241,8 @@ module _ {D : Type 0} (told : D → Option Store) (faults : D → ℕ) (meanwhil
   shut-now txn (inl shut) = inl shut
   shut-now txn (inr found) = inr (record { house = found.house; kept = found.kept; was = found.was; is = found.is; same = found.same; cut = found.cut })
 
-  pub fault-left : (call : HouseSeen D → Call) (why : HouseFault) (does : HouseSeen D → HouseSeen D → Type 0) (txn : ℕ)
-      (held : HeldBy told faults meanwhile before now call (fault_outcome why) does)
+  fault-left : (call : HouseSeen D → Call) (why : HouseFault) (does : HouseSeen D → HouseSeen D → Type 0) (txn : ℕ)
+      (held : Held (told_sight told faults) meanwhile before now call (fault_outcome why) does)
       → IsOpenHouse before → FaultLeaves told faults txn (seen_in held.house) (seen_in now) why → IsLeftBy told meanwhile txn now why
   fault-left call fault.Store does txn held running leaves = shut-now txn (shut-found call does (IsCutShort told txn) held running (λ open_. (leaves open_).0))
   fault-left call fault.NoMemory does txn held running leaves =
@@ -267,12 +251,14 @@ module _ {D : Type 0} (told : D → Option Store) (faults : D → ℕ) (meanwhil
       open-behind (Failed count) held.house.house.trail.closed now.house.trail.closed held.step.closed leaves refl
 
   -- a test refused it
-  pub refused-same : (call : HouseSeen D → Call) (does : HouseSeen D → HouseSeen D → Type 0) (held : HeldBy told faults meanwhile before now call Refused does)
+  pub refused-same : (call : HouseSeen D → Call) (does : HouseSeen D → HouseSeen D → Type 0)
+      (held : Held (told_sight told faults) meanwhile before now call Refused does)
       → trail_in now ≡ trail_in held.house
   refused-same call does held =
       stays (trail_in held.house) (trail_in now) (gains (call (seen_in held.house)) Refused) held.step.trail (gains-refused (call (seen_in held.house)))
 
-  pub test-left : (call : HouseSeen D → Call) (does : HouseSeen D → HouseSeen D → Type 0) (held : HeldBy told faults meanwhile before now call Refused does)
+  pub test-left : (call : HouseSeen D → Call) (does : HouseSeen D → HouseSeen D → Type 0)
+      (held : Held (told_sight told faults) meanwhile before now call Refused does)
       → IsOpenHouse held.house → IsOpenHouse now × (trail_in now ≡ trail_in held.house)
   test-left call does held running = (
     open-behind Refused held.house.house.trail.closed now.house.trail.closed held.step.closed running refl,
@@ -281,7 +267,7 @@ module _ {D : Type 0} (told : D → Option Store) (faults : D → ℕ) (meanwhil
 
   -- why it was refused is so still
   pub why-now : {T : Type 0} (test : Test) (txn : TxnId) (Fact : List TrailItem → Type 0) (call : HouseSeen D → Call) (result : Result T ActFault)
-      (does : HouseSeen D → HouseSeen D → Type 0) (held : HeldBy told faults meanwhile before now call (answer_outcome result) does)
+      (does : HouseSeen D → HouseSeen D → Type 0) (held : Held (told_sight told faults) meanwhile before now call (answer_outcome result) does)
       → IfErr result (IsWhy test (trail_in held.house) txn (Fact (trail_in held.house))) → IfErr result (IsWhy test (trail_in now) txn (Fact (trail_in now)))
   why-now test txn Fact call (Ok x) does held why = tt
   why-now test txn Fact call (Err (act.Ended at)) does held why =
@@ -297,7 +283,7 @@ module _ {D : Type 0} (told : D → Option Store) (faults : D → ℕ) (meanwhil
   why-now test txn Fact call (Err (act.House fault)) does held why = tt
 
   pub act-left : {T : Type 0} (call : HouseSeen D → Call) (result : Result T ActFault) (does : HouseSeen D → HouseSeen D → Type 0) (txn : ℕ)
-      (held : HeldBy told faults meanwhile before now call (answer_outcome result) does)
+      (held : Held (told_sight told faults) meanwhile before now call (answer_outcome result) does)
       → IsOpenHouse before → IfErr result (NamesEnd (trail_in held.house) txn) → AnswerLeaves told faults txn (seen_in held.house) (seen_in now) result
       → IsLeft told meanwhile txn now result
   act-left call (Ok x) does txn held running names leaves =
@@ -323,15 +309,16 @@ counts-within low high low' high' down up (entry.Abort txn (cause.ReadFault coun
 counts-within low high low' high' down up (entry.Abort txn (cause.WriteFault count)) kept = (omega (arith, down, kept.0), le_trans kept.1 up)
 counts-within low high low' high' down up event kept = tt
 
-pub unended-counts : (low high : ℕ) (event : Entry) → IsNoEnd event → KeepsCount low high event
-unended-counts low high (entry.Abort txn why) unended = absurd unended
-unended-counts low high event unended = tt
+pub unended-counts : (txn low high : ℕ) (event : Entry) → IsNoEnd txn event → KeepsCount low high event
+unended-counts txn low high (entry.Abort other (cause.Request by)) unended = tt
+unended-counts txn low high (entry.Abort other why) unended = absurd unended
+unended-counts txn low high event unended = tt
 
 -- ---- parts, one behind the other
 
 module _ {D : Type 0} (faults : D → ℕ) (B : List TrailItem → Type 0) (rows : AreRows B) where
   -- where nothing was done
-  pub adds-none : (own : List ℕ) (house : ToldHouse D) → AddsOwn faults B own own house house []
+  pub adds-none : {by : ℕ} (own : List ℕ) (house : ToldHouse D) → AddsOwn faults B by (known own house) (known own house) []
   adds-none own house =
       let trail = trail_in house in
       record {
@@ -346,38 +333,41 @@ module _ {D : Type 0} (faults : D → ℕ) (B : List TrailItem → Type 0) (rows
           goes_on = goes-on-front trail trail (front-itself trail);
         };
         entries = refl;
-        start = refl;
-        count = omega arith;
+        mine = tt;
         later = later_itself faults (seen_in house);
       }
 
-  pub adds-more : (own own' own'' : List ℕ) (a b c : ToldHouse D) (first more : List Entry) → AddsOwn faults B own own' a b first → AddsOwn faults B own' own'' b c more
-      → AddsOwn faults B own own'' a c (first ++ more)
-  adds-more own own' own'' a b c first more v w = record {
+  pub adds-more : {by : ℕ} (own own' own'' : List ℕ) (a b c : ToldHouse D) (first more : List Entry) → AddsOwn faults B by (known own a) (known own' b) first
+      → AddsOwn faults B by (known own' b) (known own'' c) more
+      → AddsOwn faults B by (known own a) (known own'' c) (first ++ more)
+  adds-more {by = by} own own' own'' a b c first more v w = record {
     items = v.items ++ w.items;
     went = went-more B rows v.items w.items own own' own'' (trail_in a) (trail_in b) (trail_in c) v.went w.went;
     entries = book-append v.items w.items ∙ ap (λ (xs : List Entry). xs ++ book_of w.items) v.entries ∙ ap (λ (xs : List Entry). first ++ xs) w.entries;
-    start = w.start ∙ v.start;
-    count = le_trans v.count w.count;
+    mine = all-mine by v.items w.items v.mine w.mine;
     later = later-further faults (seen_in a) (seen_in b) (seen_in c) v.later w.later;
   }
 
-  pub adds-front : (own own' : List ℕ) (a b : ToldHouse D) (added : List Entry) → AddsOwn faults B own own' a b added → IsFront (trail_in a) (trail_in b)
+  pub adds-front : {by : ℕ} (own own' : List ℕ) (a b : ToldHouse D) (added : List Entry) → AddsOwn faults B by (known own a) (known own' b) added
+      → IsFront (trail_in a) (trail_in b)
   adds-front own own' a b added v = record { more = v.went.added; is = v.went.seen }
 
   -- what the house was opened over tells as before
-  pub told-later : (told : D → Option Store) (own own' : List ℕ) (a b : ToldHouse D) (added : List Entry) → AddsOwn faults B own own' a b added
+  pub told-later : {by : ℕ} (told : D → Option Store) (own own' : List ℕ) (a b : ToldHouse D) (added : List Entry)
+      → AddsOwn faults B by (known own a) (known own' b) added
       → IsToldHouse told a.house → IsToldHouse told b.house
-  told-later told own own' a b added v is = subst (IsTold told) (sym v.start) is
+  told-later told own own' a b added v is = subst (IsTold told) (sym v.later.rest.start) is
 
-  pub told-earlier : (told : D → Option Store) (own own' : List ℕ) (a b : ToldHouse D) (added : List Entry) → AddsOwn faults B own own' a b added
+  pub told-earlier : {by : ℕ} (told : D → Option Store) (own own' : List ℕ) (a b : ToldHouse D) (added : List Entry)
+      → AddsOwn faults B by (known own a) (known own' b) added
       → IsToldHouse told b.house → IsToldHouse told a.house
-  told-earlier told own own' a b added v is = subst (IsTold told) v.start is
+  told-earlier told own own' a b added v is = subst (IsTold told) v.later.rest.start is
 
   -- a part that is done, behind acts whose entries end nothing
   pub gains-behind : (low low' txn : ℕ) (own own' own'' : List ℕ) (a b c : ToldHouse D) (first : List Entry) (Is Js : List Entry → Type 0) → low ≤ low'
-      → AddsOwn faults B own own' a b first → AreOf txn first → AllByRecursion IsNoEnd first → ((more : List Entry) → Is more → Js (first ++ more))
-      → Gains faults B low' txn own' own'' b c Is → Gains faults B low txn own own'' a c Js
+      → AddsOwn faults B txn (known own a) (known own' b) first → AreOf txn first → AllByRecursion (IsNoEnd txn) first
+      → ((more : List Entry) → Is more → Js (first ++ more))
+      → Gains faults B low' txn (known own' b) (known own'' c) Is → Gains faults B low txn (known own a) (known own'' c) Js
   gains-behind low low' txn own own' own'' a b c first Is Js down v of_it unended f w = record {
     added = first ++ w.added;
     adds = adds-more own own' own'' a b c first w.added v w.adds;
@@ -385,7 +375,7 @@ module _ {D : Type 0} (faults : D → ℕ) (B : List TrailItem → Type 0) (rows
     counts =
         let high : ℕ = faults_in faults c in
         all-more (KeepsCount low high) first w.added
-        (all-as IsNoEnd (KeepsCount low high) (unended-counts low high) first unended)
+        (all-as (IsNoEnd txn) (KeepsCount low high) (unended-counts txn low high) first unended)
         (all-as (KeepsCount low' high) (KeepsCount low high) (counts-within low' high low high down (omega arith)) w.added w.counts);
     is = f w.added w.is;
     running = w.running;
@@ -393,26 +383,28 @@ module _ {D : Type 0} (faults : D → ℕ) (B : List TrailItem → Type 0) (rows
 
   -- the same, said in another way
   pub gains-as : (low txn : ℕ) (own own' : List ℕ) (a b : ToldHouse D) (Is Js : List Entry → Type 0) → ((added : List Entry) → Is added → Js added)
-      → Gains faults B low txn own own' a b Is → Gains faults B low txn own own' a b Js
+      → Gains faults B low txn (known own a) (known own' b) Is → Gains faults B low txn (known own a) (known own' b) Js
   gains-as low txn own own' a b Is Js f w =
       record { added = w.added; adds = w.adds; of_it = w.of_it; counts = w.counts; is = f w.added w.is; running = w.running }
 
   module _ (told : D → Option Store) (meanwhile : ToldHouse D → ToldHouse D → Type 0) where
     -- the run stops behind such acts
     pub halts-behind : (txn : ℕ) (own own' own'' : List ℕ) (a b c : ToldHouse D) (first : List Entry) (why : HouseFault)
-        → AddsOwn faults B own own' a b first → AreOf txn first → AllByRecursion IsNoEnd first
-        → Halts told faults B meanwhile txn own' own'' b c why → Halts told faults B meanwhile txn own own'' a c why
+        → AddsOwn faults B txn (known own a) (known own' b) first → AreOf txn first → AllByRecursion (IsNoEnd txn) first
+        → Halts (among told faults B meanwhile) txn (known own' b) (known own'' c) why
+        → Halts (among told faults B meanwhile) txn (known own a) (known own'' c) why
     halts-behind txn own own' own'' a b c first why v of_it unended w = record {
       added = first ++ w.added;
       adds = adds-more own own' own'' a b c first w.added v w.adds;
       of_it = all-more (IsOf txn) first w.added of_it w.of_it;
-      unended = all-more IsNoEnd first w.added unended w.unended;
+      unended = all-more (IsNoEnd txn) first w.added unended w.unended;
       halts = w.halts;
     }
 
     -- it stops behind an act that added nothing
-    pub halts-none : (txn : ℕ) (own own' : List ℕ) (a b : ToldHouse D) (why : HouseFault) → AddsOwn faults B own own' a b [] → HaltsFor told meanwhile txn b why
-        → Halts told faults B meanwhile txn own own' a b why
+    pub halts-none : (txn : ℕ) (own own' : List ℕ) (a b : ToldHouse D) (why : HouseFault) → AddsOwn faults B txn (known own a) (known own' b) []
+        → HaltsFor told meanwhile txn b why
+        → Halts (among told faults B meanwhile) txn (known own a) (known own' b) why
     halts-none txn own own' a b why v halts = record { added = []; adds = v; of_it = tt; unended = tt; halts = halts }
 
     -- it stops for this fault, which is none of files
@@ -422,9 +414,11 @@ module _ {D : Type 0} (faults : D → ℕ) (B : List TrailItem → Type 0) (rows
     halts-for txn now (fault.Failed count) ends left = ends
 
     pub goes-behind : {T : Type 0} (low low' txn : ℕ) (own own' own'' : List ℕ) (a b c : ToldHouse D) (first : List Entry) (Is Js : T → List Entry → Type 0)
-        (result : Result T HouseFault) → low ≤ low' → AddsOwn faults B own own' a b first → AreOf txn first → AllByRecursion IsNoEnd first
+        (result : Result T HouseFault) → low ≤ low' → AddsOwn faults B txn (known own a) (known own' b) first → AreOf txn first
+        → AllByRecursion (IsNoEnd txn) first
         → ((x : T) (more : List Entry) → Is x more → Js x (first ++ more))
-        → Goes told faults B meanwhile low' txn own' own'' b c Is result → Goes told faults B meanwhile low txn own own'' a c Js result
+        → Goes (among told faults B meanwhile) low' txn (known own' b) (known own'' c) Is result
+        → Goes (among told faults B meanwhile) low txn (known own a) (known own'' c) Js result
     goes-behind low low' txn own own' own'' a b c first Is Js (Ok x) down v of_it unended f goes = record {
       done = gains-behind low low' txn own own' own'' a b c first (Is x) (Js x) down v of_it unended (f x) goes.done;
       halted = tt;
@@ -436,7 +430,9 @@ module _ {D : Type 0} (faults : D → ℕ) (B : List TrailItem → Type 0) (rows
 
     -- behind an act that added nothing, and said in another way
     pub goes-on : {T : Type 0} (low low' txn : ℕ) (own own' own'' : List ℕ) (a b c : ToldHouse D) (Is Js : T → List Entry → Type 0)
-        (result : Result T HouseFault) → low ≤ low' → AddsOwn faults B own own' a b [] → ((x : T) (more : List Entry) → Is x more → Js x more)
-        → Goes told faults B meanwhile low' txn own' own'' b c Is result → Goes told faults B meanwhile low txn own own'' a c Js result
+        (result : Result T HouseFault) → low ≤ low' → AddsOwn faults B txn (known own a) (known own' b) []
+        → ((x : T) (more : List Entry) → Is x more → Js x more)
+        → Goes (among told faults B meanwhile) low' txn (known own' b) (known own'' c) Is result
+        → Goes (among told faults B meanwhile) low txn (known own a) (known own'' c) Js result
     goes-on low low' txn own own' own'' a b c Is Js result down v f goes =
         goes-behind low low' txn own own' own'' a b c [] Is Js result down v tt tt f goes

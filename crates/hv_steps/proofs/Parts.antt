@@ -18,24 +18,27 @@ use Rattle.hv_history.specs.declared.entry.Cause.TheVariants as cause
 use Rattle.hv_history.specs.Legal.{TouchesAreMeant}
 use Rattle.hv_history.specs.Answers.{counts_line, committed_text, ok_line}
 use Rattle.hv_stands.specs.Laws.{changes_in}
+use Rattle.hv_stands.specs.Running.{IsOf, IsOwnCause}
 use Rattle.hv_trail.specs.declared.trail.TrailItem.{TrailItem}
-use Rattle.hv_actor.specs.Acting.{AreRows}
-use Rattle.hv_acts.specs.hv_telling.specs.hv_house.specs.declared.fault.HouseFault.{HouseFault}
-use Rattle.hv_acts.specs.hv_telling.specs.hv_house.specs.declared.fault.HouseFault.TheVariants as fault
-use Rattle.hv_acts.specs.hv_telling.specs.hv_house.specs.Faults.{EndsRun}
-use Rattle.hv_acts.specs.hv_telling.specs.Telling.{IsToldHouse}
-use Rattle.hv_acts.specs.declared.told.ToldHouse.{ToldHouse}
-use Rattle.hv_acts.specs.declared.fault.ActFault.{ActFault}
-use Rattle.hv_acts.specs.declared.fault.ActFault.TheVariants as act
-use Rattle.hv_acts.specs.declared.aborted.Aborted.{Aborted}
-use Rattle.hv_acts.specs.Told.{trail_in, book_in}
-use Rattle.hv_acts.specs.Meant.{HasMeant}
+use Rattle.hv_actor.specs.Acting.{AreRows, among, known}
+use Rattle.hv_table_reader.specs.hv_acts.specs.hv_telling.specs.hv_house.specs.declared.fault.HouseFault.{HouseFault}
+use Rattle.hv_table_reader.specs.hv_acts.specs.hv_telling.specs.hv_house.specs.declared.fault.HouseFault.TheVariants as fault
+use Rattle.hv_table_reader.specs.hv_acts.specs.hv_telling.specs.hv_house.specs.Faults.{EndsRun}
+use Rattle.hv_table_reader.specs.hv_acts.specs.hv_telling.specs.Telling.{IsToldHouse}
+use Rattle.hv_table_reader.specs.hv_acts.specs.declared.told.ToldHouse.{ToldHouse}
+use Rattle.hv_table_reader.specs.hv_acts.specs.declared.fault.ActFault.{ActFault}
+use Rattle.hv_table_reader.specs.hv_acts.specs.declared.fault.ActFault.TheVariants as act
+use Rattle.hv_table_reader.specs.hv_acts.specs.declared.aborted.Aborted.{Aborted}
+use Rattle.hv_table_reader.specs.hv_acts.specs.Told.{trail_in, book_in}
+use Rattle.hv_table_reader.specs.hv_acts.specs.Passing.{HasAskedAll}
+use Rattle.hv_table_reader.specs.hv_acts.specs.Meant.{HasMeant}
 use Rattle.hv_steps.specs.Ending.{KeepsCount, aborting, giving, idle_end, HasEndedAt}
 use Rattle.hv_steps.specs.declared.ready.Way.{Way}
 use Rattle.hv_steps.specs.declared.ready.End.{End}
 use Rattle.hv_steps.specs.declared.ready.End.TheVariants as end
 use Rattle.hv_steps.specs.declared.ready.Ready.{Ready}
 use Rattle.hv_shelf.specs.declared.place.Place.{Place}
+use Rattle.hv_table_reader.specs.hv_acts.proofs.Aborts.{own-abort}
 use Rattle.hv_steps.proofs.Shorts.{short_idle, short_change}
 use Rattle.hv_steps.specs.declared.reply.Done.{Done}
 use Rattle.hv_steps.specs.declared.reply.Done.TheVariants as done
@@ -52,7 +55,7 @@ use Rattle.hv_steps.proofs.Ids.{meant-lasts, given-lasts, table-lasts}
 
 pub aborts-more : {D : Type 0} (txn : ℕ) (now : ToldHouse D) (first : List Entry) (P Q : Cause → Type 0) → ((why : Cause) → P why → Q why ⊎ (why ≡ cause.Memory))
     → (found : Done) (added : List Entry) → AbortsFor txn now first P found added → AbortsFor txn now first Q found added
-aborts-more txn now first P Q f (done.Gone at) added ends = ends
+aborts-more txn now first P Q f (done.Gone reply) added ends = ends
 aborts-more txn now first P Q f (done.Replied reply) added ends =
     let abort = ends.2 in
     (ends.0, ends.1, record { why = abort.why; is = by abort.why abort.is; entry_is = abort.entry_is; answered = abort.answered }, ends.3)
@@ -61,10 +64,16 @@ aborts-more txn now first P Q f (done.Replied reply) added ends =
     by why (inl is) = f why is
     by why (inr is) = inr is
 
+-- it is its own
+early-own : (info : TableInfo) (effect : Effect) (why : Cause) → EndsEarlyFor (Change info effect) why ⊎ (why ≡ cause.Memory) → IsOwnCause why
+early-own info effect (cause.Request by) (inl early) = absurd early
+early-own info effect (cause.Request by) (inr memory) = cc
+early-own info effect why is = tt
+
 -- behind other entries
 pub aborts-behind : {D : Type 0} (txn : ℕ) (now : ToldHouse D) (first : List Entry) (P : Cause → Type 0) (found : Done) (added : List Entry)
     → AbortsFor txn now [] P found added → AbortsFor txn now first P found (first ++ added)
-aborts-behind txn now first P (done.Gone at) added ends = (ap (λ (xs : List Entry). first ++ xs) ends.0 ∙ append-nil first, ends.1)
+aborts-behind txn now first P (done.Gone reply) added ends = (ap (λ (xs : List Entry). first ++ xs) ends.0 ∙ append-nil first, ends.1)
 aborts-behind txn now first P (done.Replied reply) added ends = (ends.0, ap (λ (xs : List Entry). first ++ xs) ends.1, ends.2, ends.3)
 
 pub fault-writes : (why : ActFault) (of : Cause) → IsFaultOf why of → IsWriteFault of
@@ -132,20 +141,21 @@ module _ {D : Type 0} (told : D → Option Store) (faults : D → ℕ) (B : List
   -- said in another way
   pub goes-as : {T : Type 0} (low : ℕ) (own own' : List ℕ) (a b : ToldHouse D) (Is Js : T → List Entry → Type 0) (result : Result T HouseFault)
       → ((x : T) (added : List Entry) → Is x added → Js x added)
-      → Goes told faults B meanwhile low txn own own' a b Is result → Goes told faults B meanwhile low txn own own' a b Js result
+      → Goes (among told faults B meanwhile) low txn (known own a) (known own' b) Is result
+      → Goes (among told faults B meanwhile) low txn (known own a) (known own' b) Js result
   goes-as low own own' a b Is Js (Ok x) f goes = record { done = gains-as faults B rows low txn own own' a b (Is x) (Js x) (f x) goes.done; halted = tt }
   goes-as low own own' a b Is Js (Err why) f goes = record { done = tt; halted = goes.halted }
 
   pub goes-ended : (low : ℕ) (own own' : List ℕ) (a b : ToldHouse D) (P : Cause → Type 0) (result : Result Done HouseFault)
-      → Goes told faults B meanwhile low txn own own' a b (AbortsFor txn b [] P) result
-      → Goes told faults B meanwhile low txn own own' a b (EndsFor txn b P) (ended result)
+      → Goes (among told faults B meanwhile) low txn (known own a) (known own' b) (AbortsFor txn b [] P) result
+      → Goes (among told faults B meanwhile) low txn (known own a) (known own' b) (EndsFor txn b P) (ended result)
   goes-ended low own own' a b P (Ok found) goes =
       record { done = gains-as faults B rows low txn own own' a b (AbortsFor txn b [] P found) (EndsFor txn b P (prepared.Ended found)) (λ added is. is) goes.done; halted = tt }
   goes-ended low own own' a b P (Err why) goes = record { done = tt; halted = goes.halted }
 
   -- nothing was done
   pub goes-ready : (low : ℕ) (own : List ℕ) (a : ToldHouse D) (last : End) (text : List ℕ) (ready : Ready) → IsOpenHouse a → ready.end ≡ last → ready.text ≡ text
-      → Goes told faults B meanwhile low txn own own a a (MakesReady txn a a last text) (Ok (prepared.Ready ready))
+      → Goes (among told faults B meanwhile) low txn (known own a) (known own a) (MakesReady txn a a last text) (Ok (prepared.Ready ready))
   goes-ready low own a last text ready running end_is text_is = record {
     done = record { added = []; adds = adds-none faults B rows own a; of_it = tt; counts = tt; is = (refl, (end_is, text_is), refl); running = running };
     halted = tt;
@@ -153,25 +163,25 @@ module _ {D : Type 0} (told : D → Option Store) (faults : D → ℕ) (B : List
 
   -- a call on files failed, and it is aborted for that
   pub goes-failed : (low : ℕ) (own own' : List ℕ) (a b : ToldHouse D) (why : ActFault) (count : ℕ) (result : Result Prepared HouseFault) → why ≡ act.House (fault.Failed count)
-      → Goes told faults B meanwhile low txn own own' a b (EndsFor txn b (λ of. of ≡ cause.WriteFault count)) result
-      → Goes told faults B meanwhile low txn own own' a b (EndsFor txn b (IsFaultOf why)) result
+      → Goes (among told faults B meanwhile) low txn (known own a) (known own' b) (EndsFor txn b (λ of. of ≡ cause.WriteFault count)) result
+      → Goes (among told faults B meanwhile) low txn (known own a) (known own' b) (EndsFor txn b (IsFaultOf why)) result
   goes-failed low own own' a b why count result e goes =
-      subst (λ (w : ActFault). Goes told faults B meanwhile low txn own own' a b (EndsFor txn b (IsFaultOf w)) result) (sym e) goes
+      subst (λ (w : ActFault). Goes (among told faults B meanwhile) low txn (known own a) (known own' b) (EndsFor txn b (IsFaultOf w)) result) (sym e) goes
 
   -- a memory that lacks is said in any way
   pub goes-lacking : (low : ℕ) (own own' : List ℕ) (a b : ToldHouse D) (P : Cause → Type 0) (found : Result Done HouseFault) (result : Result Prepared HouseFault)
-      → result ≡ ended found → Goes told faults B meanwhile low txn own own' a b (AbortsFor txn b [] NoCause) found
-      → Goes told faults B meanwhile low txn own own' a b (EndsFor txn b P) result
+      → result ≡ ended found → Goes (among told faults B meanwhile) low txn (known own a) (known own' b) (AbortsFor txn b [] NoCause) found
+      → Goes (among told faults B meanwhile) low txn (known own a) (known own' b) (EndsFor txn b P) result
   goes-lacking low own own' a b P found result e goes =
-      subst (λ (r : Result Prepared HouseFault). Goes told faults B meanwhile low txn own own' a b (EndsFor txn b P) r) (sym e)
+      subst (λ (r : Result Prepared HouseFault). Goes (among told faults B meanwhile) low txn (known own a) (known own' b) (EndsFor txn b P) r) (sym e)
       (goes-ended low own own' a b P found
       (goes-as low own own' a b (AbortsFor txn b [] NoCause) (AbortsFor txn b [] P) found
       (λ done added. aborts-more txn b [] NoCause P (λ why never. absurd never) done added) goes))
 
   -- memory lacked for its text
   pub lacking-ready : (low : ℕ) (own own' : List ℕ) (a b first : ToldHouse D) (last : End) (text : List ℕ) (result : Result Prepared HouseFault)
-      → Goes told faults B meanwhile low txn own own' a b (EndsFor txn b (λ why. why ≡ cause.Memory)) result
-      → Goes told faults B meanwhile low txn own own' a b (MakesReady txn first b last text) result
+      → Goes (among told faults B meanwhile) low txn (known own a) (known own' b) (EndsFor txn b (λ why. why ≡ cause.Memory)) result
+      → Goes (among told faults B meanwhile) low txn (known own a) (known own' b) (MakesReady txn first b last text) result
   lacking-ready low own own' a b first last text result goes =
       goes-as low own own' a b (EndsFor txn b (λ why. why ≡ cause.Memory)) (MakesReady txn first b last text) result by goes
     where
@@ -181,15 +191,15 @@ module _ {D : Type 0} (told : D → Option Store) (faults : D → ℕ) (B : List
 
   -- it is ready to touch nothing
   pub made-goes : (low : ℕ) (own own' : List ℕ) (a b : ToldHouse D) (last : End) (text : List ℕ) (result : Result Prepared HouseFault) → last ≡ idle_end
-      → Goes told faults B meanwhile low txn own own' a b (MakesReady txn a b last text) result
-      → Goes told faults B meanwhile low txn own own' a b (MakesReady txn a b idle_end text) result
+      → Goes (among told faults B meanwhile) low txn (known own a) (known own' b) (MakesReady txn a b last text) result
+      → Goes (among told faults B meanwhile) low txn (known own a) (known own' b) (MakesReady txn a b idle_end text) result
   made-goes low own own' a b last text result e goes =
-      subst (λ (end_ : End). Goes told faults B meanwhile low txn own own' a b (MakesReady txn a b end_ text) result) e goes
+      subst (λ (end_ : End). Goes (among told faults B meanwhile) low txn (known own a) (known own' b) (MakesReady txn a b end_ text) result) e goes
 
   -- ---- it ends so: it can be concluded
 
   pub ends-can : (low : ℕ) (own own' : List ℕ) (a b : ToldHouse D) (way : Way) (P : Cause → Type 0) (result : Result Prepared HouseFault)
-      → Goes told faults B meanwhile low txn own own' a b (EndsFor txn b P) result → IfOk result (CanConcludeIn told b way)
+      → Goes (among told faults B meanwhile) low txn (known own a) (known own' b) (EndsFor txn b P) result → IfOk result (CanConcludeIn told b way)
   ends-can low own own' a b way P (Ok (prepared.Ready ready)) goes = absurd goes.done.is
   ends-can low own own' a b way P (Ok (prepared.Ended found)) goes = tt
   ends-can low own own' a b way P (Err why) goes = tt
@@ -197,8 +207,9 @@ module _ {D : Type 0} (told : D → Option Store) (faults : D → ℕ) (B : List
   -- ---- a meaning for which it is aborted
 
   pub early-prepares : (low : ℕ) (own own' : List ℕ) (a b : ToldHouse D) (meaning : Meaning) (why : Cause) (result : Result Prepared HouseFault)
-      → EndsEarlyFor meaning why ⊎ (why ≡ cause.Memory) → Goes told faults B meanwhile low txn own own' a b (EndsFor txn b (λ of. of ≡ why)) result
-      → Goes told faults B meanwhile low txn own own' a b (Prepares txn b meaning) result
+      → EndsEarlyFor meaning why ⊎ (why ≡ cause.Memory) → Goes (among told faults B meanwhile) low txn (known own a) (known own' b)
+      (EndsFor txn b (λ of. of ≡ why)) result
+      → Goes (among told faults B meanwhile) low txn (known own a) (known own' b) (Prepares txn b meaning) result
   early-prepares low own own' a b meaning why result is goes =
       goes-as low own own' a b (EndsFor txn b (λ of. of ≡ why)) (Prepares txn b meaning) result by goes
     where
@@ -214,8 +225,8 @@ module _ {D : Type 0} (told : D → Option Store) (faults : D → ℕ) (B : List
 
   pub made-prepares : (low : ℕ) (own own' : List ℕ) (a b : ToldHouse D) (meaning : Meaning) (last : End) (text : List ℕ) (result : Result Prepared HouseFault)
       → ((ready : Ready) → IsReadyAs ready last text → PreparesTo txn meaning ready [])
-      → Goes told faults B meanwhile low txn own own' a b (MakesReady txn a b last text) result
-      → Goes told faults B meanwhile low txn own own' a b (Prepares txn b meaning) result
+      → Goes (among told faults B meanwhile) low txn (known own a) (known own' b) (MakesReady txn a b last text) result
+      → Goes (among told faults B meanwhile) low txn (known own a) (known own' b) (Prepares txn b meaning) result
   made-prepares low own own' a b meaning last text result makes goes =
       goes-as low own own' a b (MakesReady txn a b last text) (Prepares txn b meaning) result by goes
     where
@@ -224,7 +235,7 @@ module _ {D : Type 0} (told : D → Option Store) (faults : D → ℕ) (B : List
       by (prepared.Ended found) added ends = inl (aborts-more txn b [] NoCause (EndsEarlyFor meaning) (λ why never. absurd never) found added ends)
 
   pub made-can : (low : ℕ) (own own' : List ℕ) (a b : ToldHouse D) (way : Way) (last : End) (text : List ℕ) (result : Result Prepared HouseFault)
-      → CanConclude told a way last text → Goes told faults B meanwhile low txn own own' a b (MakesReady txn a b last text) result
+      → CanConclude told a way last text → Goes (among told faults B meanwhile) low txn (known own a) (known own' b) (MakesReady txn a b last text) result
       → IfOk result (CanConcludeIn told b way)
   made-can low own own' a b way last text (Ok (prepared.Ready ready)) can goes =
       let is = goes.done.is in
@@ -237,32 +248,33 @@ module _ {D : Type 0} (told : D → Option Store) (faults : D → ℕ) (B : List
   -- without a touch, of what it means
   pub idle-prepares : (low : ℕ) (own own' : List ℕ) (a b : ToldHouse D) (m meaning : Meaning) (last : End) (text : List ℕ) (result : Result Prepared HouseFault) → m ≡ meaning
       → last ≡ idle_end → ((ready : Ready) → IsReadyAs ready idle_end text → PreparesTo txn meaning ready [])
-      → Goes told faults B meanwhile low txn own own' a b (MakesReady txn a b last text) result
-      → Goes told faults B meanwhile low txn own own' a b (Prepares txn b m) result
+      → Goes (among told faults B meanwhile) low txn (known own a) (known own' b) (MakesReady txn a b last text) result
+      → Goes (among told faults B meanwhile) low txn (known own a) (known own' b) (Prepares txn b m) result
   idle-prepares low own own' a b m meaning last text result same e makes goes =
-      subst (λ (x : Meaning). Goes told faults B meanwhile low txn own own' a b (Prepares txn b x) result) (sym same)
+      subst (λ (x : Meaning). Goes (among told faults B meanwhile) low txn (known own a) (known own' b) (Prepares txn b x) result) (sym same)
       (made-prepares low own own' a b meaning idle_end text result makes (made-goes low own own' a b last text result e goes))
 
   pub idle-concludes : (low : ℕ) (own own' : List ℕ) (a b : ToldHouse D) (way : Way) (last : End) (text : List ℕ) (result : Result Prepared HouseFault) → last ≡ idle_end
-      → CanConclude told a way idle_end text → Goes told faults B meanwhile low txn own own' a b (MakesReady txn a b last text) result
+      → CanConclude told a way idle_end text → Goes (among told faults B meanwhile) low txn (known own a) (known own' b) (MakesReady txn a b last text) result
       → IfOk result (CanConcludeIn told b way)
   idle-concludes low own own' a b way last text result e can goes =
       made-can low own own' a b way idle_end text result can (made-goes low own own' a b last text result e goes)
 
   -- for what it means, where it is aborted for that
   pub meant-prepares : (low : ℕ) (own own' : List ℕ) (a b : ToldHouse D) (m meaning : Meaning) (why : Cause) (result : Result Prepared HouseFault) → m ≡ meaning
-      → EndsEarlyFor meaning why → Goes told faults B meanwhile low txn own own' a b (EndsFor txn b (λ of. of ≡ why)) result
-      → Goes told faults B meanwhile low txn own own' a b (Prepares txn b m) result
+      → EndsEarlyFor meaning why → Goes (among told faults B meanwhile) low txn (known own a) (known own' b) (EndsFor txn b (λ of. of ≡ why)) result
+      → Goes (among told faults B meanwhile) low txn (known own a) (known own' b) (Prepares txn b m) result
   meant-prepares low own own' a b m meaning why result same is goes =
-      subst (λ (x : Meaning). Goes told faults B meanwhile low txn own own' a b (Prepares txn b x) result) (sym same)
+      subst (λ (x : Meaning). Goes (among told faults B meanwhile) low txn (known own a) (known own' b) (Prepares txn b x) result) (sym same)
       (early-prepares low own own' a b meaning why result (inl is) goes)
 
   -- ---- its files
 
   -- an act was refused behind acts that added nothing
   pub broken-writes : (low low' : ℕ) (own own' own'' : List ℕ) (a b c : ToldHouse D) (info : TableInfo) (effect : Effect) (write : ℕ) (why : ActFault) (result : Result Prepared HouseFault)
-      → low ≤ low' → AddsOwn faults B own own' a b [] → Goes told faults B meanwhile low' txn own' own'' b c (EndsFor txn c (IsFaultOf why)) result
-      → Goes told faults B meanwhile low txn own own'' a c (Writes txn c info effect write) result
+      → low ≤ low' → AddsOwn faults B txn (known own a) (known own' b) []
+      → Goes (among told faults B meanwhile) low' txn (known own' b) (known own'' c) (EndsFor txn c (IsFaultOf why)) result
+      → Goes (among told faults B meanwhile) low txn (known own a) (known own'' c) (Writes txn c info effect write) result
   broken-writes low low' own own' own'' a b c info effect write why result down adds goes =
       goes-on faults B rows told meanwhile low low' txn own own' own'' a b c (EndsFor txn c (IsFaultOf why)) (Writes txn c info effect write) result down adds by goes
     where
@@ -271,11 +283,13 @@ module _ {D : Type 0} (told : D → Option Store) (faults : D → ℕ) (B : List
       by (prepared.Ended found) added ends = aborts-more txn c [] (IsFaultOf why) IsWriteFault (λ of is. inl (fault-writes why of is)) found added ends
 
   pub put-writes : (low : ℕ) (own own' : List ℕ) (a b : ToldHouse D) (info : TableInfo) (effect : Effect) (write : ℕ) (wrote : List Touch) (text : List ℕ) (put : List Place) (found : Prepared)
-      → AddsOwn faults B own own' a b [] → IsOpenHouse b → IsChangePut info effect write put → wrote ≡ touches_of info effect → text ≡ counts_line (touches_of info effect)
+      → AddsOwn faults B txn (known own a) (known own' b) [] → IsOpenHouse b → IsChangePut info effect write put → wrote ≡ touches_of info effect
+      → text ≡ counts_line (touches_of info effect)
       → found ≡ prepared.Ready (record { end = end.Commit wrote info.shape.name put; text = text })
-      → Goes told faults B meanwhile low txn own own' a b (Writes txn b info effect write) (Ok found)
+      → Goes (among told faults B meanwhile) low txn (known own a) (known own' b) (Writes txn b info effect write) (Ok found)
   put-writes low own own' a b info effect write wrote text put found adds running puts are says is =
-      subst (λ (f : Prepared). Goes told faults B meanwhile low txn own own' a b (Writes txn b info effect write) (Ok f)) (sym is) (record {
+      subst (λ (f : Prepared). Goes (among told faults B meanwhile) low txn (known own a) (known own' b) (Writes txn b info effect write) (Ok f)) (sym is)
+      (record {
         done = record {
           added = [];
           adds = adds;
@@ -303,8 +317,9 @@ module _ {D : Type 0} (told : D → Option Store) (faults : D → ℕ) (B : List
 
   -- an act that makes no call on files was refused
   pub broken-prepares : (low low' : ℕ) (own own' own'' : List ℕ) (a b c : ToldHouse D) (meaning : Meaning) (why : ActFault) (result : Result Prepared HouseFault)
-      → low ≤ low' → AddsOwn faults B own own' a b [] → EndsAct why → Goes told faults B meanwhile low' txn own' own'' b c (EndsFor txn c (IsFaultOf why)) result
-      → Goes told faults B meanwhile low txn own own'' a c (Prepares txn c meaning) result
+      → low ≤ low' → AddsOwn faults B txn (known own a) (known own' b) [] → EndsAct why
+      → Goes (among told faults B meanwhile) low' txn (known own' b) (known own'' c) (EndsFor txn c (IsFaultOf why)) result
+      → Goes (among told faults B meanwhile) low txn (known own a) (known own'' c) (Prepares txn c meaning) result
   broken-prepares low low' own own' own'' a b c meaning why result down adds ends goes =
       goes-on faults B rows told meanwhile low low' txn own own' own'' a b c (EndsFor txn c (IsFaultOf why)) (Prepares txn c meaning) result down adds by goes
     where
@@ -315,9 +330,9 @@ module _ {D : Type 0} (told : D → Option Store) (faults : D → ℕ) (B : List
 
   -- its files are put behind it
   pub given-prepares : (low low' : ℕ) (own own' own'' : List ℕ) (a b c : ToldHouse D) (info : TableInfo) (effect : Effect) (write : WriteId) (result : Result Prepared HouseFault)
-      → low ≤ low' → 0 < changes_in effect → AddsOwn faults B own own' a b (giving txn info.table write ∷ [])
-      → Goes told faults B meanwhile low' txn own' own'' b c (Writes txn c info effect write.0) result
-      → Goes told faults B meanwhile low txn own own'' a c (Prepares txn c (Change info effect)) result
+      → low ≤ low' → 0 < changes_in effect → AddsOwn faults B txn (known own a) (known own' b) (giving txn info.table write ∷ [])
+      → Goes (among told faults B meanwhile) low' txn (known own' b) (known own'' c) (Writes txn c info effect write.0) result
+      → Goes (among told faults B meanwhile) low txn (known own a) (known own'' c) (Prepares txn c (Change info effect)) result
   given-prepares low low' own own' own'' a b c info effect write result down some adds goes =
       goes-behind faults B rows told meanwhile low low' txn own own' own'' a b c (giving txn info.table write ∷ []) (Writes txn c info effect write.0)
       (Prepares txn c (Change info effect)) result down adds (refl, tt) (tt, tt) by goes
@@ -329,15 +344,19 @@ module _ {D : Type 0} (told : D → Option Store) (faults : D → ℕ) (B : List
 
   -- or there was no room for it
   pub full-prepares : (low : ℕ) (own own' : List ℕ) (a b : ToldHouse D) (info : TableInfo) (effect : Effect) (aborted : Aborted) (found : Prepared)
-      → AddsOwn faults B own own' a b (aborting txn aborted.cause ∷ []) → IsOpenHouse b
+      → AddsOwn faults B txn (known own a) (known own' b) (aborting txn aborted.cause ∷ []) → IsOpenHouse b
       → IsAbortFor txn b (EndsEarlyFor (Change info effect)) (aborting txn aborted.cause) (aborted_reply aborted) → HasEndedAt (book_in b) txn (Some aborted.at)
-      → found ≡ ended_by aborted → Goes told faults B meanwhile low txn own own' a b (Prepares txn b (Change info effect)) (Ok found)
+      → found ≡ ended_by aborted → Goes (among told faults B meanwhile) low txn (known own a) (known own' b) (Prepares txn b (Change info effect)) (Ok found)
   full-prepares low own own' a b info effect aborted found adds running abort at is =
-      subst (λ (f : Prepared). Goes told faults B meanwhile low txn own own' a b (Prepares txn b (Change info effect)) (Ok f)) (sym is) (record {
+      subst (λ (f : Prepared). Goes (among told faults B meanwhile) low txn (known own a) (known own' b) (Prepares txn b (Change info effect)) (Ok f)) (sym is)
+      (record {
         done = record {
           added = aborting txn aborted.cause ∷ [];
           adds = adds;
-          of_it = (refl, tt);
+          of_it = (
+            subst (IsOf txn) (sym abort.entry_is) (own-abort (record { 0 = txn }) abort.why (early-own info effect abort.why abort.is)),
+            tt,
+          );
           counts = (
             subst (KeepsCount low (faults_in faults b)) (sym abort.entry_is) (early-or-lacking info effect txn low (faults_in faults b) abort.why abort.is),
             tt,
@@ -352,11 +371,13 @@ module _ {D : Type 0} (told : D → Option Store) (faults : D → ℕ) (B : List
 
 -- without a touch
 pub idle-can : {D : Type 0} (told : D → Option Store) (house : ToldHouse D) (way : Way) (meaning : Meaning) (text : List ℕ) → TouchesAreMeant [] (Some meaning)
-    → text ≡ committed_text (Some meaning) [] → (IsToldHouse told house.house → HasMeant (trail_in house) way.txn [] meaning) → CanConclude told house way idle_end text
-idle-can told house way meaning text are says means = (
+    → text ≡ committed_text (Some meaning) []
+    → (IsToldHouse told house.house → (has : HasMeant (trail_in house) way.txn [] meaning) × HasAskedAll (trail_in house) way.txn has.was.place has.was.said meaning)
+    → CanConclude told house way idle_end text
+idle-can told house way meaning text are says meant = (
   short_idle way.txn.0,
   inl refl,
-  λ is. inl (record { means = meaning; meant_it = means is; touches = are; none = refl }, says),
+  λ is. inl (record { means = meaning; meant_it = (meant is).0; touches = are; none = refl; asked = (meant is).1 }, says),
 )
 
 -- by its Create
@@ -393,8 +414,10 @@ change-can told house way info effect write wrote text put id within are says pu
 )
 
 -- a write id is its own still
-pub id-lasts : {D : Type 0} (told : D → Option Store) (faults : D → ℕ) (B : List TrailItem → Type 0) (rows : AreRows B) (own own' : List ℕ) (a b : ToldHouse D) (added : List Entry) (txn : TxnId)
-    (info : TableInfo) (effect : Effect) (write : ℕ) → AddsOwn faults B own own' a b added → HasItsId told a txn info effect write → HasItsId told b txn info effect write
+pub id-lasts : {D : Type 0} {by : ℕ} (told : D → Option Store) (faults : D → ℕ) (B : List TrailItem → Type 0) (rows : AreRows B) (own own' : List ℕ)
+    (a b : ToldHouse D) (added : List Entry) (txn : TxnId)
+    (info : TableInfo) (effect : Effect) (write : ℕ) → AddsOwn faults B by (known own a) (known own' b) added → HasItsId told a txn info effect write
+    → HasItsId told b txn info effect write
 id-lasts told faults B rows own own' a b added txn info effect write adds id =
     let front = adds-front faults B rows own own' a b added adds in
     record {

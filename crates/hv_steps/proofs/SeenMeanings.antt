@@ -25,11 +25,11 @@ use Rattle.hv_stands.proofs.SeeingEnough.{seeing-enough, tables-stay}
 use Rattle.hv_stands.proofs.FileRecords.{inserts-can-be-put}
 use Rattle.hv_stands.proofs.Meanings.{ComesOfRows, same-or-rows, built-means}
 use Rattle.hv_stands.proofs.SeenTables.{reading-enough, read-infos, CanChangeTable, change-of-seen}
-use Rattle.hv_acts.specs.hv_telling.specs.hv_house.specs.Listing.{info_in}
-use Rattle.hv_acts.specs.hv_telling.specs.Telling.{IsToldHouse}
+use Rattle.hv_table_reader.specs.hv_acts.specs.hv_telling.specs.hv_house.specs.Listing.{info_in}
+use Rattle.hv_table_reader.specs.hv_acts.specs.hv_telling.specs.Telling.{IsToldHouse}
 use Rattle.hv_shelf.specs.Disk.{Store}
-use Rattle.hv_acts.specs.declared.told.ToldHouse.{ToldHouse}
-use Rattle.hv_acts.specs.Told.{book_in}
+use Rattle.hv_table_reader.specs.hv_acts.specs.declared.told.ToldHouse.{ToldHouse}
+use Rattle.hv_table_reader.specs.hv_acts.specs.Told.{book_in}
 use Rattle.hv_steps.specs.Ending.{CanEnd, CanChange}
 use Rattle.hv_steps.specs.declared.ready.Way.{Way}
 use Rattle.hv_steps.specs.Phases.{ComesTo}

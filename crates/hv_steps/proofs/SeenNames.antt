@@ -12,8 +12,8 @@ use Rattle.hv_meaning.specs.Meaning.{info_of}
 use Rattle.hv_history.specs.declared.state.Table.{Table}
 use Rattle.hv_history.specs.Legal.{is_named}
 use Rattle.hv_stands.specs.Reading.{table_of_name, named_in}
-use Rattle.hv_acts.specs.hv_telling.specs.hv_house.specs.Listing.{info_in}
-use Rattle.hv_acts.specs.hv_telling.specs.hv_house.specs.Seeing.{info_of_name}
+use Rattle.hv_table_reader.specs.hv_acts.specs.hv_telling.specs.hv_house.specs.Listing.{info_in}
+use Rattle.hv_table_reader.specs.hv_acts.specs.hv_telling.specs.hv_house.specs.Seeing.{info_of_name}
 use Rattle.hv_steps.specs.Seeing.{seen_with, IsSeenAs, AreSeenAs}
 
 of-option : {A B : Type 0} (f : A → B) (o : Option A) → map f (option_to_list o) ≡ option_to_list (option_map f o)

@@ -13,7 +13,7 @@ use Rattle.hv_logic.specs.declared.effect.Effect.{Effect}
 use Rattle.hv_route.specs.Touching.{touches_of, touched, stored_fits, is_long, is_above, within_limits}
 use Rattle.hv_route.specs.declared.fault.RouteFault.TheVariants as fault
 use Rattle.hv_history.specs.declared.entry.Cause.TheVariants as cause
-use Rattle.hv_acts.specs.hv_telling.specs.hv_house.specs.House.{IsSmall}
+use Rattle.hv_table_reader.specs.hv_acts.specs.hv_telling.specs.hv_house.specs.House.{IsSmall}
 use Rattle.hv_steps.specs.Ending.{aborting, committing}
 use Rattle.hv_history.specs.Spelling.{touch_spelling}
 use Rattle.hv_bytes.proofs.Lengths.{length-four, length-eight, length-text}

@@ -13,19 +13,19 @@ use Rattle.hv_history.specs.declared.entry.Cause.TheVariants as cause
 use Rattle.hv_history.specs.Spelling.{place_spelling}
 use Rattle.hv_stands.specs.Running.{Asking}
 use Rattle.hv_trail.specs.declared.trail.TrailItem.{TrailItem}
-use Rattle.hv_actor.specs.Acting.{AreRows}
-use Rattle.hv_acts.specs.hv_telling.specs.hv_house.specs.declared.fault.HouseFault.{HouseFault}
-use Rattle.hv_acts.specs.hv_telling.specs.hv_house.specs.declared.fault.HouseFault.TheVariants as fault
-use Rattle.hv_acts.specs.hv_telling.specs.hv_house.specs.declared.fault.RowFault.{RowFault}
-use Rattle.hv_acts.specs.hv_telling.specs.hv_house.specs.House.{IsSmall}
-use Rattle.hv_acts.specs.hv_telling.specs.Telling.{IsToldHouse}
-use Rattle.hv_acts.specs.declared.told.ToldHouse.{ToldHouse}
-use Rattle.hv_acts.specs.Going.{faults_in, IsShutBetween, IsShutNow}
-use Rattle.hv_acts.specs.Reading.{HasPlace}
-use Rattle.hv_acts.proofs.Readings.{place-lasts}
+use Rattle.hv_actor.specs.Acting.{AreRows, among, known}
+use Rattle.hv_table_reader.specs.hv_acts.specs.hv_telling.specs.hv_house.specs.declared.fault.HouseFault.{HouseFault}
+use Rattle.hv_table_reader.specs.hv_acts.specs.hv_telling.specs.hv_house.specs.declared.fault.HouseFault.TheVariants as fault
+use Rattle.hv_table_reader.specs.declared.fault.RowFault.{RowFault}
+use Rattle.hv_table_reader.specs.hv_acts.specs.hv_telling.specs.hv_house.specs.House.{IsSmall}
+use Rattle.hv_table_reader.specs.hv_acts.specs.hv_telling.specs.Telling.{IsToldHouse}
+use Rattle.hv_table_reader.specs.hv_acts.specs.declared.told.ToldHouse.{ToldHouse}
+use Rattle.hv_table_reader.specs.hv_acts.specs.Going.{faults_in, IsShutBetween, IsShutNow}
+use Rattle.hv_table_reader.specs.hv_acts.specs.Reading.{HasPlace}
+use Rattle.hv_table_reader.specs.hv_acts.proofs.Readings.{place-lasts}
 use Rattle.hv_steps.specs.Ending.{aborting}
 use Rattle.hv_steps.specs.declared.ready.Way.{Way}
-use Rattle.hv_steps.specs.Tables.{RisesTo}
+use Rattle.hv_table_reader.specs.Tables.{RisesTo}
 use Rattle.hv_steps.specs.declared.reply.Done.{Done}
 use Rattle.hv_steps.specs.declared.reply.Done.TheVariants as done
 use Rattle.hv_steps.specs.declared.reply.Outcome.{Outcome}
@@ -58,7 +58,7 @@ way-place trail asking way said was =
 module _ {D : Type 0} (told : D → Option Store) (txn : ℕ) (now : ToldHouse D) where
   aborts-as : (P Q : Cause → Type 0) → ((why : Cause) → P why → Q why ⊎ (why ≡ cause.Memory)) → (found : Done) (added : List Entry)
       → AbortsFor txn now [] P found added → AbortsFor txn now [] Q found added
-  aborts-as P Q f (done.Gone at) added aborts = aborts
+  aborts-as P Q f (done.Gone reply) added aborts = aborts
   aborts-as P Q f (done.Replied reply) added aborts =
       let abort = aborts.2 in
       (aborts.0, aborts.1, record { why = abort.why; is = by abort.why abort.is; entry_is = abort.entry_is; answered = abort.answered }, aborts.3)
@@ -87,8 +87,8 @@ module _ {D : Type 0} (told : D → Option Store) (faults : D → ℕ) (B : List
   -- it was ended for this cause, which is one by which its tables can't be seen
   pub goes-unseen : (low txn : ℕ) (own own' : List ℕ) (before now : ToldHouse D) (why : Cause)
       → ((IsToldHouse told now.house → IsToldHouse told before.house) → (why ≡ cause.Memory) ⊎ IsUntoldDamage told now why) → (result : Result Outcome HouseFault)
-      → Goes told faults B meanwhile low txn own own' before now (EndsFor txn now why) result
-      → Goes told faults B meanwhile low txn own own' before now (EndsUnseen told now txn) result
+      → Goes (among told faults B meanwhile) low txn (known own before) (known own' now) (EndsFor txn now why) result
+      → Goes (among told faults B meanwhile) low txn (known own before) (known own' now) (EndsUnseen told now txn) result
   goes-unseen low txn own own' before now why so (Ok found) goes = record {
     done = gains-as faults B rows low txn own own' before now (EndsFor txn now why found) (EndsUnseen told now txn found)
         (ends-unseen told txn now why (so (told-earlier faults B rows told own own' before now goes.done.added goes.done.adds)) found) goes.done;
@@ -98,20 +98,23 @@ module _ {D : Type 0} (told : D → Option Store) (faults : D → ℕ) (B : List
 
   -- an end is one of what it comes to
   pub goes-ok : (low txn : ℕ) (own own' : List ℕ) (before now : ToldHouse D) (why : Cause) (found : Done)
-      → Goes {T = Done} told faults B meanwhile low txn own own' before now (AbortsFor txn now [] (λ of. of ≡ why)) (Ok found)
-      → Goes told faults B meanwhile low txn own own' before now (EndsFor txn now why) (Ok (outcome.Ended found))
+      → Goes {T = Done} (among told faults B meanwhile) low txn (known own before) (known own' now) (AbortsFor txn now [] (λ of. of ≡ why)) (Ok found)
+      → Goes (among told faults B meanwhile) low txn (known own before) (known own' now) (EndsFor txn now why) (Ok (outcome.Ended found))
   goes-ok low txn own own' before now why found goes = record { done = goes.done; halted = tt }
 
   pub goes-err : {T U : Type 0} (low txn : ℕ) (own own' : List ℕ) (before now : ToldHouse D) (Is : T → List Entry → Type 0) (Js : U → List Entry → Type 0)
-      (fault : HouseFault) (r : Result U HouseFault) → IsErrAnd r (λ y. y ≡ fault) → Goes told faults B meanwhile low txn own own' before now Is (Err fault)
-      → Goes told faults B meanwhile low txn own own' before now Js r
+      (fault : HouseFault) (r : Result U HouseFault) → IsErrAnd r (λ y. y ≡ fault)
+      → Goes (among told faults B meanwhile) low txn (known own before) (known own' now) Is (Err fault)
+      → Goes (among told faults B meanwhile) low txn (known own before) (known own' now) Js r
   goes-err low txn own own' before now Is Js fault (Ok x) left goes = absurd left
   goes-err low txn own own' before now Is Js fault (Err y) left goes =
-      subst (λ (e : HouseFault). Goes told faults B meanwhile low txn own own' before now Js (Err e)) (sym left) (record { done = tt; halted = goes.halted })
+      subst (λ (e : HouseFault). Goes (among told faults B meanwhile) low txn (known own before) (known own' now) Js (Err e)) (sym left)
+      (record { done = tt; halted = goes.halted })
 
   -- the run stops, and nothing was done
   pub goes-shut : {T : Type 0} (low txn : ℕ) (own : List ℕ) (house : ToldHouse D) (Is : T → List Entry → Type 0)
-      → IsShutBetween meanwhile ⊎ IsShutNow told txn house → Goes told faults B meanwhile low txn own own house house Is (Err fault.Store)
+      → IsShutBetween meanwhile ⊎ IsShutNow told txn house → Goes (among told faults B meanwhile) low txn (known own house) (known own house) Is
+      (Err fault.Store)
   goes-shut low txn own house Is shut = record {
     done = tt;
     halted = halts-none faults B rows told meanwhile txn own own house house fault.Store (adds-none faults B rows own house) shut;
@@ -119,8 +122,10 @@ module _ {D : Type 0} (told : D → Option Store) (faults : D → ℕ) (B : List
 
   module _ (way : Way) (said : Stmt) (own own' : List ℕ) (before now : ToldHouse D) where
     -- it means this
-    pub goes-meaning : (meaning : Meaning) → Looks {T = Meaning} told faults B meanwhile way.txn own own' before now (Ok meaning) → ComesTo told now way said meaning
-        → Goes told faults B meanwhile (faults_in faults before) way.txn.0 own own' before now (Sees told now way said) (Ok (outcome.Means meaning))
+    pub goes-meaning : (meaning : Meaning) → Looks {T = Meaning} (among told faults B meanwhile) way.txn (known own before) (known own' now) (Ok meaning)
+        → ComesTo told now way said meaning
+        → Goes (among told faults B meanwhile) (faults_in faults before) way.txn.0 (known own before) (known own' now) (Sees told now way said)
+        (Ok (outcome.Means meaning))
     goes-meaning meaning looks comes = record {
       done = record { added = []; adds = looks.adds; of_it = tt; counts = tt; is = (refl, comes); running = looks.running };
       halted = tt;
@@ -128,11 +133,11 @@ module _ {D : Type 0} (told : D → Option Store) (faults : D → ℕ) (B : List
 
     -- or it was ended, since its tables couldn't be seen
     pub goes-ended : (own'' : List ℕ) (end : ToldHouse D) (result : Result Outcome HouseFault) (why : RowFault)
-        → Looks {T = Meaning} told faults B meanwhile way.txn own own' before now (Err why)
+        → Looks {T = Meaning} (among told faults B meanwhile) way.txn (known own before) (known own' now) (Err why)
         → ((low : ℕ) → low ≤ faults_in faults now → RisesTo low (faults_in faults now) why
-        → Goes told faults B meanwhile low way.txn.0 own' own'' now end (EndsUnseen told end way.txn.0) result)
-        → Goes told faults B meanwhile (faults_in faults before) way.txn.0 own own'' before end (Sees told end way said) result
+        → Goes (among told faults B meanwhile) low way.txn.0 (known own' now) (known own'' end) (EndsUnseen told end way.txn.0) result)
+        → Goes (among told faults B meanwhile) (faults_in faults before) way.txn.0 (known own before) (known own'' end) (Sees told end way said) result
     goes-ended own'' end result why looks goes =
         let low : ℕ = faults_in faults before in
         goes-on faults B rows told meanwhile low low way.txn.0 own own' own'' before now end (EndsUnseen told end way.txn.0) (Sees told end way said) result
-        (omega arith) looks.adds (sees-ended told way.txn.0 end way said refl) (goes low looks.adds.count looks.counts)
+        (omega arith) looks.adds (sees-ended told way.txn.0 end way said refl) (goes low looks.adds.later.count looks.counts)

@@ -26,10 +26,11 @@ use Rattle.hv_history.specs.Legal.{TouchesAreMeant, IsMake, IsLegalFrom, AllFit,
 use Rattle.hv_history.specs.Answers.{committed_text, ok_line}
 use Rattle.hv_stands.specs.Laws.{HasFile, changes_in}
 use Rattle.hv_stands.specs.Running.{Asking, AreOf, meant, IsUnderWay, HasAnswered}
-use Rattle.hv_acts.specs.Meant.{places_of_files, IsNoEnd}
-use Rattle.hv_acts.specs.hv_telling.specs.hv_house.specs.declared.fault.HouseFault.{HouseFault}
-use Rattle.hv_acts.specs.hv_telling.specs.hv_house.specs.declared.house.House.{House}
-use Rattle.hv_acts.specs.hv_telling.specs.hv_house.specs.House.{entries_of, IsSmall, Leaves}
+use Rattle.hv_table_reader.specs.hv_acts.specs.Answers.{OpensNone}
+use Rattle.hv_table_reader.specs.hv_acts.specs.Meant.{places_of_files, IsNoEnd}
+use Rattle.hv_table_reader.specs.hv_acts.specs.hv_telling.specs.hv_house.specs.declared.fault.HouseFault.{HouseFault}
+use Rattle.hv_table_reader.specs.hv_acts.specs.hv_telling.specs.hv_house.specs.declared.house.House.{House}
+use Rattle.hv_table_reader.specs.hv_acts.specs.hv_telling.specs.hv_house.specs.House.{entries_of, IsSmall, Leaves}
 use Rattle.hv_steps.specs.declared.ready.Ready.{Ready}
 use Rattle.hv_steps.specs.declared.ready.Reply.{Reply}
 use Rattle.hv_steps.specs.declared.ready.End.{End}
@@ -86,6 +87,10 @@ giving txn table write = entry.Given (record { 0 = txn }) table write
 
 abbrev pub aborting : ℕ → Cause → Entry
 aborting txn why = entry.Abort (record { 0 = txn }) why
+
+-- the abort of that one which this transaction asks for
+abbrev pub asking_for : ℕ → ℕ → Entry
+asking_for txn other = entry.Abort (record { 0 = other }) (cause.Request (record { 0 = txn }))
 
 abbrev pub creating : ℕ → TableId → Entry
 creating txn table = entry.Create (record { 0 = txn }) table
@@ -183,7 +188,14 @@ EndIsTrue meaning given (end.Drop table) text = DropIsReady meaning given table 
 -- an abort by which it ends before its commit
 abbrev pub EndsUncommitted : Cause → Type 0
 EndsUncommitted (cause.Conflict by table partition) = ⊥
+EndsUncommitted (cause.Request by) = ⊥
 EndsUncommitted why = Unit {0}
+
+-- it asks for the abort of another transaction
+pub record IsAskBy (txn : ℕ) (event : Entry) : Type 0 where
+  pub other : ℕ
+  pub event_is : event ≡ asking_for txn other
+  pub apart : other ≡ txn → ⊥
 
 abbrev pub AddsNoneOrId : ℕ → List Entry → Type 0
 AddsNoneOrId txn added = (added ≡ []) ⊎ ((table : TableId) × (write : WriteId) × (added ≡ giving txn table write ∷ []))
@@ -226,8 +238,8 @@ pub record Prepares (txn low high : ℕ) (before now : List Entry) (found : Prep
   pub undamaged : AllByRecursion IsUndamaged added
 
 -- it is one entry, which ends its transaction
-abbrev pub IsOneEnd : List Entry → Type 0
-IsOneEnd added = (last : Entry) × (IsNoEnd last → ⊥) × (added ≡ last ∷ [])
+abbrev pub IsOneEnd : ℕ → List Entry → Type 0
+IsOneEnd txn added = (last : Entry) × (IsNoEnd txn last → ⊥) × (added ≡ last ∷ [])
 
 -- ending it adds just one entry, which is its own and ends it, and doesn't say that a file is damaged
 pub record Concludes (txn low high : ℕ) (before now : List Entry) : Type 0 where
@@ -236,7 +248,7 @@ pub record Concludes (txn low high : ℕ) (before now : List Entry) : Type 0 whe
   pub of_it : AreOf txn added
   pub counts : AllByRecursion (KeepsCount low high) added
   pub undamaged : AllByRecursion IsUndamaged added
-  pub ends : IsOneEnd added
+  pub ends : IsOneEnd txn added
 
 -- what stands of it then, whatever is told: it is under way, and its end can be noted
 pub record IsReadyToEnd (book : List Entry) (asking : Asking) (txn place : ℕ) (said : Stmt) (ready : Ready) : Type 0 where
@@ -256,7 +268,7 @@ pub record IsTrulyReady (book : List Entry) (asking : Asking) (txn place : ℕ) 
 abbrev pub IsTrulyPrepared : List Entry → Asking → ℕ → ℕ → Stmt → Prepared → Type 0
 IsTrulyPrepared book asking txn place said (prepared.Ready ready) = IsTrulyReady book asking txn place said ready
 IsTrulyPrepared book asking txn place said (prepared.Ended (done.Replied reply)) = HasReplied book txn reply.text reply.refused reply.ended
-IsTrulyPrepared book asking txn place said (prepared.Ended (done.Gone at)) = ⊥
+IsTrulyPrepared book asking txn place said (prepared.Ended (done.Gone reply)) = ⊥
 
 -- ---- where it ended
 
@@ -267,20 +279,21 @@ NamesLast now reply = (place : ℕ) × (reply.ended ≡ Some place) × (length n
 abbrev pub EndedNamesLast : List Entry → Prepared → Type 0
 EndedNamesLast now (prepared.Ready ready) = Unit {0}
 EndedNamesLast now (prepared.Ended (done.Replied reply)) = NamesLast now reply
-EndedNamesLast now (prepared.Ended (done.Gone at)) = ⊥
+EndedNamesLast now (prepared.Ended (done.Gone reply)) = ⊥
 
 -- ---- the run stopped in a statement
 
 -- Its entries so far are legal behind the book, and none ends it. The journal reads to the book, or where the store failed, to the
--- book or to the book and one entry more of it, which fits behind the book.
+-- book or to the book and one entry more of it, which fits behind the book and is no Opened.
 pub record HasStopped {D : Type 0} (told : D → Option Store) (txn : ℕ) (why : HouseFault) (before now : House D) : Type 0 where
   pub added : List Entry
   pub book : entries_of now ≡ entries_of before ++ added
   pub of_it : AreOf txn added
   pub legal : IsLegalFrom profile (state_of (entries_of before)) added
-  pub unended : AllByRecursion IsNoEnd added
+  pub unended : AllByRecursion (IsNoEnd txn) added
   pub further : List Entry
   pub further_of_it : AreOf txn further
+  pub unopened : AllByRecursion OpensNone further
   pub few : length further ≤ 1
   pub fit : AllFit profile (state_of (entries_of now)) further
   pub leaves : Leaves why further (told now.shelf) (entries_of now)

@@ -3,15 +3,13 @@
 use Rattle.std.specs.Prelude.{◌⊎◌, ℕ, Option, List, [], ◌∷◌, Result, Ok, Err}
 use Rattle.hv_shelf.specs.Disk.{Store}
 use Rattle.hv_history.specs.declared.entry.Entry.{Entry}
-use Rattle.hv_acts.specs.hv_telling.specs.hv_house.specs.declared.fault.HouseFault.{HouseFault}
-use Rattle.hv_acts.specs.hv_telling.specs.hv_house.specs.declared.fault.HouseFault.TheVariants as fault
-use Rattle.hv_acts.specs.hv_telling.specs.hv_house.specs.Faults.{EndsRun}
-use Rattle.hv_acts.specs.declared.told.ToldHouse.{ToldHouse}
-use Rattle.hv_acts.specs.declared.fault.ActFault.{ActFault}
-use Rattle.hv_acts.specs.declared.fault.ActFault.TheVariants as act
-use Rattle.hv_acts.specs.Told.{trail_in}
-use Rattle.hv_steps.specs.declared.reply.Done.{Done}
-use Rattle.hv_steps.specs.declared.reply.Done.TheVariants as done
+use Rattle.hv_table_reader.specs.hv_acts.specs.hv_telling.specs.hv_house.specs.declared.fault.HouseFault.{HouseFault}
+use Rattle.hv_table_reader.specs.hv_acts.specs.hv_telling.specs.hv_house.specs.declared.fault.HouseFault.TheVariants as fault
+use Rattle.hv_table_reader.specs.hv_acts.specs.hv_telling.specs.hv_house.specs.Faults.{EndsRun}
+use Rattle.hv_table_reader.specs.hv_acts.specs.declared.told.ToldHouse.{ToldHouse}
+use Rattle.hv_table_reader.specs.hv_acts.specs.declared.fault.ActFault.{ActFault}
+use Rattle.hv_table_reader.specs.hv_acts.specs.declared.fault.ActFault.TheVariants as act
+use Rattle.hv_table_reader.specs.hv_acts.specs.Told.{trail_in}
 use Rattle.hv_steps.specs.Going.{IsOpenHouse, IsGone, IsShutBetween, IsShutNow}
 
 -- the house's call failed: where its store did, others had closed it or this call did
@@ -57,11 +55,3 @@ IsNeverUnfit (act.Held by) = ⊥
 IsNeverUnfit (act.Broken put count) = ⊥
 IsNeverUnfit act.Unfit = ⊥
 IsNeverUnfit (act.House why) = Unit {0}
-
-abbrev pub unaborted : ActFault → Result Done HouseFault
-unaborted (act.Ended at) = Ok (done.Gone at)
-unaborted (act.Full entries) = Err fault.Store
-unaborted (act.Held by) = Err fault.Store
-unaborted (act.Broken put count) = Err fault.Store
-unaborted act.Unfit = Err fault.Store
-unaborted (act.House why) = Err why

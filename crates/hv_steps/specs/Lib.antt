@@ -1,9 +1,8 @@
-pub use Rattle.hv_acts as hv_acts
+pub use Rattle.hv_table_reader as hv_table_reader
 pub mod Ending
 pub mod Going
 pub mod Leaving
 pub mod Phases
 pub mod Preparing
+pub mod Requests
 pub mod Seeing
-pub mod Steady
-pub mod Tables

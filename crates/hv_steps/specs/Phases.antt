@@ -29,17 +29,18 @@ use Rattle.hv_stands.specs.Laws.{HasFile, changes_in}
 use Rattle.hv_stands.specs.Running.{Asking, next_number, opening, starting, meant}
 use Rattle.hv_trail.specs.declared.trail.TrailItem.{TrailItem}
 use Rattle.hv_trail.specs.Trail.{book_of, state_at}
-use Rattle.hv_acts.specs.hv_telling.specs.hv_house.specs.declared.fault.HouseFault.{HouseFault}
-use Rattle.hv_acts.specs.hv_telling.specs.hv_house.specs.declared.fault.HouseFault.TheVariants as fault
-use Rattle.hv_acts.specs.declared.told.ToldHouse.{ToldHouse}
-use Rattle.hv_acts.specs.Told.{IsWholeOrClosed, seen_in, trail_in, book_in}
-use Rattle.hv_acts.specs.Beginning.{IsBeginningCut}
-use Rattle.hv_acts.specs.hv_telling.specs.hv_house.specs.House.{IsSmall}
-use Rattle.hv_acts.specs.hv_telling.specs.hv_house.specs.Asking.{CanBegin}
-use Rattle.hv_acts.specs.Meant.{TouchesNothing, IsChangeDue, IsMakeMeant, IsDropMeant, places_of_files}
-use Rattle.hv_acts.specs.Starting.{IsInItsWay}
-use Rattle.hv_acts.specs.Committing.{CanBePut}
-use Rattle.hv_acts.specs.hv_telling.specs.Telling.{IsToldHouse}
+use Rattle.hv_table_reader.specs.hv_acts.specs.hv_telling.specs.hv_house.specs.declared.fault.HouseFault.{HouseFault}
+use Rattle.hv_table_reader.specs.hv_acts.specs.hv_telling.specs.hv_house.specs.declared.fault.HouseFault.TheVariants as fault
+use Rattle.hv_table_reader.specs.hv_acts.specs.declared.told.ToldHouse.{ToldHouse}
+use Rattle.hv_table_reader.specs.hv_acts.specs.Told.{IsWholeOrClosed, seen_in, trail_in, book_in}
+use Rattle.hv_table_reader.specs.hv_acts.specs.Beginning.{IsBeginningCut}
+use Rattle.hv_table_reader.specs.hv_acts.specs.Waiting.{IsOpeningCut}
+use Rattle.hv_table_reader.specs.hv_acts.specs.hv_telling.specs.hv_house.specs.House.{IsSmall}
+use Rattle.hv_table_reader.specs.hv_acts.specs.hv_telling.specs.hv_house.specs.Asking.{CanBegin}
+use Rattle.hv_table_reader.specs.hv_acts.specs.Meant.{TouchesNothing, IsChangeDue, IsMakeMeant, IsDropMeant, places_of_files}
+use Rattle.hv_table_reader.specs.hv_acts.specs.Starting.{IsInItsWay}
+use Rattle.hv_table_reader.specs.hv_acts.specs.Committing.{CanBePut}
+use Rattle.hv_table_reader.specs.hv_acts.specs.hv_telling.specs.Telling.{IsToldHouse}
 use Rattle.hv_steps.specs.Ending.{giving, aborting, creating, dropping, committing, idle_end, CanEnd, HasEndedAt, HasReplied}
 use Rattle.hv_steps.specs.declared.ready.Way.{Way}
 use Rattle.hv_steps.specs.declared.ready.Reply.{Reply}
@@ -52,9 +53,13 @@ use Rattle.hv_steps.specs.declared.reply.Opened.{Opened}
 use Rattle.hv_steps.specs.declared.reply.Opened.TheVariants as opened
 use Rattle.hv_steps.specs.declared.reply.Outcome.{Outcome}
 use Rattle.hv_steps.specs.declared.reply.Outcome.TheVariants as outcome
+use Rattle.hv_steps.specs.declared.reply.Asked.{Asked}
+use Rattle.hv_steps.specs.declared.reply.Asked.TheVariants as asked
 use Rattle.hv_steps.specs.declared.reply.Prepared.{Prepared}
 use Rattle.hv_steps.specs.declared.reply.Prepared.TheVariants as prepared
-use Rattle.hv_steps.specs.Going.{IsOpenHouse, IsShutHouse, IsGone, WasOnWay, AddsOwn, Halts}
+pub use Rattle.hv_steps.specs.Going.{WasSoBetween, IsNextAt}
+use Rattle.hv_steps.specs.Going.{IsOpenHouse, IsShutHouse, IsGoneSo, WasOnWay, AddsOwn, Halts}
+use Rattle.hv_actor.specs.Acting.{Setting, Moment}
 
 -- ---- an end
 
@@ -62,7 +67,7 @@ use Rattle.hv_steps.specs.Going.{IsOpenHouse, IsShutHouse, IsGone, WasOnWay, Add
 abbrev pub EndsBehind : {D : Type 0} → ℕ → ToldHouse D → List Entry → (Entry → Reply → Type 0) → Done → List Entry → Type 0
 EndsBehind txn now first Is (done.Replied reply) added =
     (last : Entry) × (added ≡ first ++ last ∷ []) × Is last reply × HasEndedAt (book_in now) txn reply.ended
-EndsBehind txn now first Is (done.Gone at) added = (added ≡ first) × IsGone (trail_in now) txn at
+EndsBehind txn now first Is (done.Gone reply) added = (added ≡ first) × IsGoneSo (trail_in now) txn reply
 
 -- an abort for this cause or, where memory lacked for that, for want of memory; the reply is its line, and its transaction's answer
 pub record IsAbortFor {D : Type 0} (txn : ℕ) (now : ToldHouse D) (Causes : Cause → Type 0) (last : Entry) (reply : Reply) : Type 0 where
@@ -75,13 +80,6 @@ abbrev pub AbortsFor : {D : Type 0} → ℕ → ToldHouse D → List Entry → (
 AbortsFor txn now first Causes found added = EndsBehind txn now first (IsAbortFor txn now Causes) found added
 
 -- ---- its beginning
-
--- at some trail between, this was so
-pub record WasSoBetween {D : Type 0} (before now : ToldHouse D) (Is : List TrailItem → Type 0) : Type 0 where
-  pub trail : List TrailItem
-  pub later : (others : List TrailItem) × (trail ≡ trail_in before ++ others)
-  pub front : (more : List TrailItem) × (trail_in now ≡ trail ++ more)
-  pub was : Is trail
 
 -- its Opened was noted behind this trail: it has the next number
 pub record OpensAt (asking : Asking) (txn : ℕ) (event : Entry) (trail : List TrailItem) : Type 0 where
@@ -97,10 +95,6 @@ IsHinderedAt said trail = CanBegin profile (book_of trail) said → ⊥
 pub record IsHinderedBefore (txn : ℕ) (said : Stmt) (trail : List TrailItem) : Type 0 where
   pub hindered : IsHinderedAt said trail
   pub before : next_number (book_of trail) ≤ txn
-
--- at this trail its number was the next
-abbrev pub IsNextAt : ℕ → List TrailItem → Type 0
-IsNextAt txn trail = txn ≡ next_number (book_of trail)
 
 -- at this trail it was opened and started, one directly behind the other
 pub record BeginsAt (asking : Asking) (said : Stmt) (way : Way) (event : Entry) (trail : List TrailItem) : Type 0 where
@@ -162,11 +156,41 @@ pub record IsShutBeginning {D : Type 0} (told : D → Option Store) (asking : As
   pub same : trail_in now ≡ trail_in house
   pub cut : IsBeginningCut told asking (seen_in house) (seen_in now)
 
-abbrev pub HaltsBeginning : {D : Type 0} → (D → Option Store) → (D → ℕ) → (List TrailItem → Type 0) → (ToldHouse D → ToldHouse D → Type 0) → Asking
-    → List ℕ → List ℕ → ToldHouse D → ToldHouse D → HouseFault → Type 0
-HaltsBeginning told faults between meanwhile asking own own' before now why =
-    ((txn : ℕ) × WasSoBetween before now (IsNextAt txn) × Halts told faults between meanwhile txn own own' before now why)
-    ⊎ ((why ≡ fault.Store) × AddsOwn faults between own own' before now [] × IsShutBeginning told asking now)
+-- its last act was to open the statement, and found the house open and failed: nothing was added then, and the journal reads to the book, or to
+-- it and the Opened, which fits
+pub record IsShutOpening {D : Type 0} (told : D → Option Store) (asking : Asking) (now : ToldHouse D) : Type 0 where
+  pub house : ToldHouse D
+  pub kept : IsWholeOrClosed told house.house
+  pub was : IsOpenHouse house
+  pub is : IsShutHouse now
+  pub same : trail_in now ≡ trail_in house
+  pub cut : IsOpeningCut told asking (seen_in house) (seen_in now)
+
+-- the first of these entries, where there is one, is the Opened of this statement
+abbrev pub BegunBy : Asking → List Entry → Type 0
+BegunBy asking [] = Unit {0}
+BegunBy asking (entry.Opened txn session number text ∷ more) = (session ≡ asking.session) × (number ≡ asking.number) × (text ≡ asking.text)
+BegunBy asking (event ∷ more) = ⊥
+
+-- it stops, and what was added begins with its Opened
+pub record HaltsOpened {D : Type 0} (setting : Setting D (ToldHouse D)) (asking : Asking) (txn : ℕ)
+    (before now : Moment (ToldHouse D)) (why : HouseFault) : Type 0 where
+  pub stop : Halts setting txn before now why
+  pub begun_by : BegunBy asking stop.added
+
+-- whoever's that is, nothing was added
+abbrev pub AddsNone : {D : Type 0} → (D → ℕ) → (List TrailItem → Type 0) → Moment (ToldHouse D) → Moment (ToldHouse D)
+    → Type 0
+AddsNone faults between before now = (by : ℕ) → AddsOwn faults between by before now []
+
+abbrev pub HaltsBeginning : {D : Type 0} → Setting D (ToldHouse D) → Asking → Moment (ToldHouse D)
+    → Moment (ToldHouse D) → HouseFault → Type 0
+HaltsBeginning setting asking before now why =
+    ((txn : ℕ) × WasSoBetween before.house now.house (IsNextAt txn) × HaltsOpened setting asking txn before now why)
+    ⊎ ((why ≡ fault.Store) × AddsNone setting.faults setting.between before now
+    × IsShutBeginning setting.told asking now.house)
+    ⊎ ((why ≡ fault.Store) × AddsNone setting.faults setting.between before now
+    × IsShutOpening setting.told asking now.house)
 
 -- ---- what it comes to
 
@@ -222,6 +246,21 @@ Prepares txn now meaning (prepared.Ready ready) added = PreparesTo txn meaning r
 Prepares txn now meaning (prepared.Ended found) added =
     AbortsFor txn now [] (EndsEarlyFor meaning) found added ⊎ ((first : List Entry) × GivesId txn meaning first × AbortsFor txn now first IsWriteFault found added)
 
+abbrev pub NoCause : Cause → Type 0
+NoCause why = ⊥
+
+-- it has asked for all that it asks for; or it has ended on the way
+abbrev pub Asks : {D : Type 0} → ℕ → ToldHouse D → (Entry → Type 0) → Asked → List Entry → Type 0
+Asks txn now IsAsk asked.All added = AllByRecursion IsAsk added
+Asks txn now IsAsk (asked.Ended found) added = (first : List Entry) × AllByRecursion IsAsk first × AbortsFor txn now first NoCause found added
+
+-- it has asked for all, and prepares what it means behind that; or it has ended before. None that comes to something else asks for any.
+abbrev pub PreparesAsked : {D : Type 0} → ℕ → ToldHouse D → (Entry → Type 0) → Meaning → Prepared → List Entry → Type 0
+PreparesAsked txn now IsAsk meaning found added =
+    ((first : List Entry) × (more : List Entry) × (added ≡ first ++ more) × AllByRecursion IsAsk first × Prepares txn now meaning found more
+    × ((first ≡ []) ⊎ (meaning ≡ Plain)))
+    ⊎ ((ended : Done) × (found ≡ prepared.Ended ended) × Asks txn now IsAsk (asked.Ended ended) added × (meaning ≡ Plain))
+
 -- ---- its end
 
 -- its commit is what it means: it touches nothing and this is what it prints; or these are the touches of its change, in the table of that name
@@ -267,17 +306,14 @@ pub record EndsInConflict (txn : ℕ) (ready : Ready) (last : Entry) (reply : Re
   pub line : reply.text ≡ conflict_text by.0 name partition
   pub refusal : reply.refused ≡ true
 
-abbrev pub NoCause : Cause → Type 0
-NoCause why = ⊥
-
 -- by what it was ready for; for a conflict; or for want of memory
 abbrev pub ConcludesSo : {D : Type 0} → ℕ → ToldHouse D → Ready → Entry → Reply → Type 0
 ConcludesSo txn now ready last reply = EndsReady txn ready last reply ⊎ EndsInConflict txn ready last reply ⊎ IsAbortFor txn now NoCause last reply
 
--- in a told house the reply is its transaction's answer
+-- in a told house the reply is its transaction's answer, unless others have ended it
 abbrev pub AnswersTruly : {D : Type 0} → ℕ → ToldHouse D → Done → Type 0
 AnswersTruly txn now (done.Replied reply) = HasReplied (book_in now) txn reply.text reply.refused reply.ended
-AnswersTruly txn now (done.Gone at) = Unit {0}
+AnswersTruly txn now (done.Gone reply) = IsGoneSo (trail_in now) txn reply
 
 abbrev pub Concludes : {D : Type 0} → ℕ → ToldHouse D → Ready → Done → List Entry → Type 0
 Concludes txn now ready found added = EndsBehind txn now [] (ConcludesSo txn now ready) found added

@@ -24,18 +24,18 @@ use Rattle.hv_stands.specs.Laws.{HasFile}
 use Rattle.hv_stands.specs.Running.{Asking, meant}
 use Rattle.hv_trail.specs.Trail.{state_at}
 use Rattle.hv_trail.specs.Lasting.{Has, IsGiven}
-use Rattle.hv_acts.specs.hv_telling.specs.hv_house.specs.declared.fault.HouseFault.{HouseFault}
-use Rattle.hv_acts.specs.hv_telling.specs.hv_house.specs.declared.fault.HouseFault.TheVariants as fault
-use Rattle.hv_acts.specs.hv_telling.specs.Telling.{IsToldHouse}
-use Rattle.hv_acts.specs.declared.told.ToldHouse.{ToldHouse}
-use Rattle.hv_acts.specs.declared.fault.ActFault.{ActFault}
-use Rattle.hv_acts.specs.declared.fault.ActFault.TheVariants as act
-use Rattle.hv_acts.specs.declared.giving.Given.{Given}
-use Rattle.hv_acts.specs.declared.giving.Given.TheVariants as given
-use Rattle.hv_acts.specs.declared.aborted.Aborted.{Aborted}
-use Rattle.hv_acts.specs.Told.{trail_in, book_in}
-use Rattle.hv_acts.specs.Answers.{HasItsMark}
-use Rattle.hv_acts.specs.Meant.{HasMeant, IsFileMeant, places_of_files}
+use Rattle.hv_table_reader.specs.hv_acts.specs.hv_telling.specs.hv_house.specs.declared.fault.HouseFault.{HouseFault}
+use Rattle.hv_table_reader.specs.hv_acts.specs.hv_telling.specs.hv_house.specs.declared.fault.HouseFault.TheVariants as fault
+use Rattle.hv_table_reader.specs.hv_acts.specs.hv_telling.specs.Telling.{IsToldHouse}
+use Rattle.hv_table_reader.specs.hv_acts.specs.declared.told.ToldHouse.{ToldHouse}
+use Rattle.hv_table_reader.specs.hv_acts.specs.declared.fault.ActFault.{ActFault}
+use Rattle.hv_table_reader.specs.hv_acts.specs.declared.fault.ActFault.TheVariants as act
+use Rattle.hv_table_reader.specs.hv_acts.specs.declared.giving.Given.{Given}
+use Rattle.hv_table_reader.specs.hv_acts.specs.declared.giving.Given.TheVariants as given
+use Rattle.hv_table_reader.specs.hv_acts.specs.declared.aborted.Aborted.{Aborted}
+use Rattle.hv_table_reader.specs.hv_acts.specs.Told.{trail_in, book_in}
+use Rattle.hv_table_reader.specs.hv_acts.specs.Answers.{HasItsMark}
+use Rattle.hv_table_reader.specs.hv_acts.specs.Meant.{HasMeant, IsFileMeant, places_of_files}
 use Rattle.hv_steps.specs.Ending.{aborting, giving, CanChange, HasEndedAt}
 use Rattle.hv_steps.specs.declared.ready.End.{End}
 use Rattle.hv_steps.specs.declared.ready.Reply.{Reply}

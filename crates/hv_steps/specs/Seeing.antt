@@ -1,5 +1,5 @@
 -- What a started statement sees of the tables that it names, each as it stood at its snapshot, at whatever moment it was looked at.
-use Rattle.std.specs.Prelude.{◌≡◌, ◌⊎◌, ℕ, ◌<◌, ◌≤◌, Bool, if◌then◌else◌, Option, List, [], ◌∷◌, ◌++◌, length, take, map, Result, IfOk, IfErr}
+use Rattle.std.specs.Prelude.{◌≡◌, ◌⊎◌, ℕ, ◌<◌, ◌≤◌, Bool, if◌then◌else◌, Option, List, [], ◌∷◌, ◌++◌, length, map, Result, IfOk, IfErr}
 use Rattle.std.specs.List.{flat_map}
 use Rattle.std.specs.Option.{option_map, option_to_list}
 use Rattle.hv_base.specs.declared.ids.TxnId.{TxnId}
@@ -20,21 +20,22 @@ use Rattle.hv_history.specs.declared.state.Table.{Table}
 use Rattle.hv_history.specs.State.{content_of}
 use Rattle.hv_stands.specs.Reading.{table_of_name, named_in}
 use Rattle.hv_trail.specs.declared.trail.TrailItem.{TrailItem}
-use Rattle.hv_acts.specs.hv_telling.specs.hv_house.specs.declared.fault.HouseFault.TheVariants as fault
-use Rattle.hv_acts.specs.hv_telling.specs.hv_house.specs.declared.fault.RowFault.{RowFault}
-use Rattle.hv_acts.specs.hv_telling.specs.hv_house.specs.declared.fault.RowFault.TheVariants as row_fault
-use Rattle.hv_acts.specs.hv_telling.specs.hv_house.specs.Faults.{IsShortDamage}
-use Rattle.hv_acts.specs.hv_telling.specs.hv_house.specs.Listing.{info_in}
-use Rattle.hv_acts.specs.hv_telling.specs.Telling.{IsToldHouse}
-use Rattle.hv_acts.specs.declared.told.ToldHouse.{ToldHouse}
-use Rattle.hv_acts.specs.Told.{trail_in}
-use Rattle.hv_acts.specs.Answers.{HasItsMark}
-use Rattle.hv_acts.specs.Reading.{state_then}
+use Rattle.hv_table_reader.specs.hv_acts.specs.hv_telling.specs.hv_house.specs.declared.fault.HouseFault.TheVariants as fault
+use Rattle.hv_table_reader.specs.declared.fault.RowFault.{RowFault}
+use Rattle.hv_table_reader.specs.declared.fault.RowFault.TheVariants as row_fault
+use Rattle.hv_table_reader.specs.Damage.{IsShortDamage}
+use Rattle.hv_table_reader.specs.hv_acts.specs.hv_telling.specs.hv_house.specs.Listing.{info_in}
+use Rattle.hv_table_reader.specs.hv_acts.specs.hv_telling.specs.Telling.{IsToldHouse}
+use Rattle.hv_table_reader.specs.hv_acts.specs.declared.told.ToldHouse.{ToldHouse}
+use Rattle.hv_table_reader.specs.hv_acts.specs.Told.{trail_in}
+use Rattle.hv_table_reader.specs.hv_acts.specs.Answers.{HasItsMark}
+use Rattle.hv_table_reader.specs.hv_acts.specs.Reading.{state_then}
 use Rattle.hv_steps.specs.declared.reply.Outcome.{Outcome}
 use Rattle.hv_steps.specs.declared.reply.Outcome.TheVariants as outcome
-use Rattle.hv_acts.specs.Going.{faults_in, IsOpenHouse, IsShutBetween, IsShutNow, AddsOwn}
-use Rattle.hv_steps.specs.Tables.{RisesTo}
+use Rattle.hv_table_reader.specs.hv_acts.specs.Going.{faults_in, IsOpenHouse, IsShutBetween, IsShutNow, AddsOwn}
+use Rattle.hv_table_reader.specs.Tables.{RisesTo}
 use Rattle.hv_steps.specs.Phases.{AbortsFor, IsUntoldDamage}
+use Rattle.hv_actor.specs.Acting.{Setting, Moment}
 
 -- ---- what is seen of a table
 
@@ -82,19 +83,19 @@ IsUnseen told meanwhile by now (row_fault.House fault.NoMemory) = IsOpenHouse no
 IsUnseen told meanwhile by now (row_fault.House (fault.Failed count)) = IsOpenHouse now × HasItsMark (trail_in now) by (cause.ReadFault count)
 
 -- all that is promised of what reads: nothing is noted
-pub record Looks {D T : Type 0} (told : D → Option Store) (faults : D → ℕ) (between : List TrailItem → Type 0) (meanwhile : ToldHouse D → ToldHouse D → Type 0)
-    (by : TxnId) (own own' : List ℕ) (before now : ToldHouse D) (result : Result T RowFault) : Type 0 where
-  pub adds : AddsOwn faults between own own' before now []
-  pub running : IfOk result (λ _. IsOpenHouse now)
-  pub unseen : IfErr result (IsUnseen told meanwhile by now)
-  pub counts : IfErr result (RisesTo (faults_in faults before) (faults_in faults now))
+pub record Looks {D T : Type 0} (setting : Setting D (ToldHouse D)) (by : TxnId) (before now : Moment (ToldHouse D))
+    (result : Result T RowFault) : Type 0 where
+  pub adds : AddsOwn setting.faults setting.between by.0 before now []
+  pub running : IfOk result (λ _. IsOpenHouse now.house)
+  pub unseen : IfErr result (IsUnseen setting.told setting.meanwhile by now.house)
+  pub counts : IfErr result (RisesTo (faults_in setting.faults before.house) (faults_in setting.faults now.house))
 
--- of the names the first ones were looked at
-pub record SeesUpTo {D : Type 0} (told : D → Option Store) (faults : D → ℕ) (between : List TrailItem → Type 0) (own own' : List ℕ) (first now : ToldHouse D)
-    (place : ℕ) (reads : Bool) (locks : List Lock) (i : ℕ) (seen : List Seen) : Type 0 where
-  pub adds : AddsOwn faults between own own' first now []
-  pub running : IsOpenHouse now
-  pub sees : AreSeenAs (IsToldHouse told first.house) reads (tables_then first place) (take i locks) seen
+-- of the names the first ones were looked at, and this is seen of them
+pub record SeesUpTo {D : Type 0} (faults : D → ℕ) (between : List TrailItem → Type 0) (by : ℕ)
+    (first now : Moment (ToldHouse D)) (Is : Type 0) : Type 0 where
+  pub adds : AddsOwn faults between by first now []
+  pub running : IsOpenHouse now.house
+  pub sees : Is
 
 -- ---- what it means
 

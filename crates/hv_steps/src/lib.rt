@@ -2,21 +2,21 @@
 //! prepares that, and is refused or aborted where that is due.
 #![tactic(auto)]
 
-pub use hv_acts;
+pub use hv_table_reader;
 
-mod acting;
+mod asking;
 mod preparing;
 mod putting;
-mod reading;
 mod ready;
 mod refusing;
 mod reply;
 mod seeing;
-mod tables;
+mod telling;
 
+pub use asking::ask;
 pub use preparing::prepare;
 pub use ready::{End, Ready, Reply, Way};
 pub use refusing::end_without;
-pub use reply::{Done, Opened, Outcome, Prepared};
+pub use reply::{Asked, Done, Opened, Outcome, Prepared};
 pub use seeing::see;
-pub use tables::see_table;
+pub use telling::tell_end;

@@ -9,12 +9,13 @@ ghost use Rattle.hv_table_rows.specs.Putting.{CanPut};
 ghost use Rattle.hv_history.specs.Answers.{counts_line};
 ghost use Rattle.hv_stands.specs.Laws.{changes_in};
 ghost use Rattle.hv_stands.specs.Running.{Asking, meant};
-ghost use Rattle.hv_acts.specs.hv_telling.specs.hv_house.specs.Faults.{EndsRun};
-ghost use Rattle.hv_acts.specs.hv_telling.specs.hv_house.specs.House.{IsSmall};
-ghost use Rattle.hv_acts.specs.hv_telling.specs.Telling.{IsToldHouse};
-ghost use Rattle.hv_acts.specs.Told.{trail_in, book_in};
-ghost use Rattle.hv_acts.specs.Answers.{HasItsMark};
-ghost use Rattle.hv_acts.specs.Meant.{IsAbortDue};
+ghost use Rattle.hv_table_reader.specs.hv_acts.specs.hv_telling.specs.hv_house.specs.Faults.{EndsRun};
+ghost use Rattle.hv_table_reader.specs.hv_acts.specs.hv_telling.specs.hv_house.specs.House.{IsSmall};
+ghost use Rattle.hv_table_reader.specs.hv_acts.specs.hv_telling.specs.Telling.{IsToldHouse};
+ghost use Rattle.hv_table_reader.specs.hv_acts.specs.Told.{trail_in, book_in};
+ghost use Rattle.hv_table_reader.specs.hv_acts.specs.Answers.{HasItsMark};
+ghost use Rattle.hv_table_reader.specs.hv_acts.specs.Passing.{HasAskedAll};
+ghost use Rattle.hv_table_reader.specs.hv_acts.specs.Meant.{IsAbortDue};
 ghost use Rattle.hv_steps.specs.declared.ready.End.TheVariants as last;
 ghost use Rattle.hv_steps.specs.Ending.{aborting, idle_end, CanChange, EndsUncommitted};
 ghost use Rattle.hv_steps.specs.declared.reply.Prepared.TheVariants as found;
@@ -22,19 +23,22 @@ ghost use Rattle.hv_steps.specs.Going.{faults_in, AddsOwn, CauseKeeps, Goes, IsO
 ghost use Rattle.hv_steps.specs.Leaving.{EndsAct};
 ghost use Rattle.hv_steps.specs.Phases.{ComesTo, Prepares, CanConcludeIn, NoCause};
 ghost use Rattle.hv_steps.specs.Preparing.{ended, ended_by, failed_count, given_entries, EndsFor, MakesReady, ComesToChange, IsGivenSo, IsFaultOf, IsRefusal, HasItsId, Writes};
+ghost use Rattle.hv_actor.specs.Acting.{among, known};
 
 use crate::putting::put;
 use crate::ready::{End, Ready, Reply, Way};
 use crate::refusing::{end_without, refuse};
 use crate::reply::{Done, Prepared};
 use hv_actor::Actor;
-use hv_acts::hv_telling::hv_house::HouseFault;
-use hv_acts::{Aborted, ActFault, GiveId, Given, ToldHouse, what_was_meant_is_meant};
 use hv_base::{List, NoMemory, Text, Touch, TxnId, WriteId};
 use hv_effect::Touching;
 use hv_history::{Cause, counts_line, listing, ok_line};
 use hv_logic::{Effect, Meaning, TableInfo};
 use hv_shelf::{Place, Shelf};
+use hv_table_reader::hv_acts::hv_telling::hv_house::HouseFault;
+use hv_table_reader::hv_acts::{
+    Aborted, ActFault, GiveId, Given, ToldHouse, what_was_meant_is_meant,
+};
 use std::alloc::Global;
 
 /// A commit that touches nothing.
@@ -71,7 +75,8 @@ fn withdraw<D: Shelf + Drop, W: Actor<D, ToldHouse<D>>>(
     requires was { WasOpened (trail_in (W.house actor.old)) txn.0 }
     ensures keeps { W.keeps actor.new }
     ensures goes { (low : ℕ) → low ≤ faults_in D.faults (W.house actor.old) → CauseKeeps low (faults_in D.faults (W.house actor.old)) cause
-        → Goes D.told D.faults W.between W.meanwhile low txn.0 (W.own actor.old) (W.own actor.new) (W.house actor.old) (W.house actor.new)
+        → Goes (among D.told D.faults W.between W.meanwhile) low txn.0 (known (W.own actor.old) (W.house actor.old))
+        (known (W.own actor.new) (W.house actor.new))
         (EndsFor txn.0 (W.house actor.new) (λ why. why ≡ cause)) result }
     ensures ends { IfErr result EndsRun }
 {
@@ -91,8 +96,9 @@ fn made_ready<D: Shelf + Drop, W: Actor<D, ToldHouse<D>>>(
     requires was { WasOpened (trail_in (W.house actor.old)) txn.0 }
     ensures keeps { W.keeps actor.new }
     ensures goes { (wanted : List ℕ) → IfOk text (λ line. line.items ≡ wanted)
-        → Goes D.told D.faults W.between W.meanwhile (faults_in D.faults (W.house actor.old)) txn.0
-        (W.own actor.old) (W.own actor.new) (W.house actor.old) (W.house actor.new) (MakesReady txn.0 (W.house actor.old) (W.house actor.new) end wanted) result }
+        → Goes (among D.told D.faults W.between W.meanwhile) (faults_in D.faults (W.house actor.old)) txn.0
+        (known (W.own actor.old) (W.house actor.old)) (known (W.own actor.new) (W.house actor.new))
+        (MakesReady txn.0 (W.house actor.old) (W.house actor.new) end wanted) result }
     ensures ends { IfErr result EndsRun }
 {
     match text {
@@ -134,7 +140,8 @@ fn take_id<D: Shelf + Drop, W: Actor<D, ToldHouse<D>>>(
     requires comes { ComesToChange D.told (W.house actor.old) way info.now effect.now }
     requires some { 0 < changes_in effect.now }
     ensures keeps { W.keeps actor.new }
-    ensures adds { AddsOwn D.faults W.between (W.own actor.old) (W.own actor.new) (W.house actor.old) (W.house actor.new)
+    ensures adds { AddsOwn D.faults W.between way.txn.0 (known (W.own actor.old) (W.house actor.old))
+        (known (W.own actor.new) (W.house actor.new))
         (given_entries way.txn.0 info.now.table result) }
     ensures running { IfOk result (λ _. IsOpenHouse (W.house actor.new)) }
     ensures given { IfOk result (IsGivenSo D.told (W.house actor.new) way.txn info.now effect.now) }
@@ -191,7 +198,8 @@ fn break_off<D: Shelf + Drop, W: Actor<D, ToldHouse<D>>>(
     ensures keeps { W.keeps actor.new }
     ensures broken { (low : ℕ) → low ≤ faults_in D.faults (W.house actor.old)
         → IsRefusal D.told D.faults W.meanwhile low txn (W.house actor.old) why
-        → Goes D.told D.faults W.between W.meanwhile low txn.0 (W.own actor.old) (W.own actor.new) (W.house actor.old) (W.house actor.new)
+        → Goes (among D.told D.faults W.between W.meanwhile) low txn.0 (known (W.own actor.old) (W.house actor.old))
+        (known (W.own actor.new) (W.house actor.new))
         (EndsFor txn.0 (W.house actor.new) (IsFaultOf why)) result }
     ensures ends { IfErr result EndsRun }
 {
@@ -228,8 +236,8 @@ fn put_rows<D: Shelf + Drop, W: Actor<D, ToldHouse<D>>>(
     requires wrote { change.wrote ≡ touches_of change.info change.effect }
     requires text { change.text.items ≡ counts_line (touches_of change.info change.effect) }
     ensures keeps { W.keeps actor.new }
-    ensures goes { Goes D.told D.faults W.between W.meanwhile (faults_in D.faults (W.house actor.old)) way.txn.0
-        (W.own actor.old) (W.own actor.new) (W.house actor.old) (W.house actor.new)
+    ensures goes { Goes (among D.told D.faults W.between W.meanwhile) (faults_in D.faults (W.house actor.old)) way.txn.0
+        (known (W.own actor.old) (W.house actor.old)) (known (W.own actor.new) (W.house actor.new))
         (Writes way.txn.0 (W.house actor.new) change.info change.effect write.0) result }
     ensures can { IfOk result (CanConcludeIn D.told (W.house actor.new) way) }
     ensures ends { IfErr result EndsRun }
@@ -260,8 +268,8 @@ fn change_rows<D: Shelf + Drop, W: Actor<D, ToldHouse<D>>>(
     requires wrote { change.wrote ≡ touches_of change.info change.effect }
     requires text { change.text.items ≡ counts_line (touches_of change.info change.effect) }
     ensures keeps { W.keeps actor.new }
-    ensures goes { Goes D.told D.faults W.between W.meanwhile (faults_in D.faults (W.house actor.old)) way.txn.0
-        (W.own actor.old) (W.own actor.new) (W.house actor.old) (W.house actor.new)
+    ensures goes { Goes (among D.told D.faults W.between W.meanwhile) (faults_in D.faults (W.house actor.old)) way.txn.0
+        (known (W.own actor.old) (W.house actor.old)) (known (W.own actor.new) (W.house actor.new))
         (Prepares way.txn.0 (W.house actor.new) (Change change.info change.effect)) result }
     ensures can { IfOk result (CanConcludeIn D.told (W.house actor.new) way) }
     ensures ends { IfErr result EndsRun }
@@ -288,8 +296,8 @@ fn prepare_rows<D: Shelf + Drop, W: Actor<D, ToldHouse<D>>>(
     requires some { 0 < changes_in effect }
     requires wrote { wrote ≡ touches_of info effect }
     ensures keeps { W.keeps actor.new }
-    ensures goes { Goes D.told D.faults W.between W.meanwhile (faults_in D.faults (W.house actor.old)) way.txn.0
-        (W.own actor.old) (W.own actor.new) (W.house actor.old) (W.house actor.new)
+    ensures goes { Goes (among D.told D.faults W.between W.meanwhile) (faults_in D.faults (W.house actor.old)) way.txn.0
+        (known (W.own actor.old) (W.house actor.old)) (known (W.own actor.new) (W.house actor.new))
         (Prepares way.txn.0 (W.house actor.new) (Change info effect)) result }
     ensures can { IfOk result (CanConcludeIn D.told (W.house actor.new) way) }
     ensures ends { IfErr result EndsRun }
@@ -322,8 +330,8 @@ fn prepare_change<D: Shelf + Drop, W: Actor<D, ToldHouse<D>>>(
     requires comes { ComesToChange D.told (W.house actor.old) way info effect }
     requires wrote { wrote ≡ touches_of info effect }
     ensures keeps { W.keeps actor.new }
-    ensures goes { Goes D.told D.faults W.between W.meanwhile (faults_in D.faults (W.house actor.old)) way.txn.0
-        (W.own actor.old) (W.own actor.new) (W.house actor.old) (W.house actor.new)
+    ensures goes { Goes (among D.told D.faults W.between W.meanwhile) (faults_in D.faults (W.house actor.old)) way.txn.0
+        (known (W.own actor.old) (W.house actor.old)) (known (W.own actor.new) (W.house actor.new))
         (Prepares way.txn.0 (W.house actor.new) (Change info effect)) result }
     ensures can { IfOk result (CanConcludeIn D.told (W.house actor.new) way) }
     ensures ends { IfErr result EndsRun }
@@ -341,8 +349,8 @@ fn prepare_change<D: Shelf + Drop, W: Actor<D, ToldHouse<D>>>(
     }
 }
 
-/// Does all of a started statement of this meaning but its end: takes a write id and puts its files where it changes rows. Or ends it: for
-/// what it means, for a fault of its files, or for want of room or memory.
+/// Does all of a started statement of this meaning but its end, once it has asked for the aborts that it lists: takes a write id and puts its
+/// files where it changes rows. Or ends it: for what it means, for a fault of its files, or for want of room or memory.
 ///
 /// # Errors
 /// `Store` where the journal failed or others closed the house, and `NoMemory` where memory lacked even for an abort.
@@ -355,10 +363,11 @@ pub fn prepare<D: Shelf + Drop, W: Actor<D, ToldHouse<D>>>(
     requires keeps { W.keeps actor.old }
     requires running { IsOpenHouse (W.house actor.old) }
     requires was { (asking : Asking) × (said : Stmt) × WasOnWay (trail_in (W.house actor.old)) asking way said
-        × ComesTo D.told (W.house actor.old) way said meaning }
+        × ComesTo D.told (W.house actor.old) way said meaning × HasAskedAll (trail_in (W.house actor.old)) way.txn way.place said meaning }
     ensures keeps { W.keeps actor.new }
-    ensures goes { Goes D.told D.faults W.between W.meanwhile (faults_in D.faults (W.house actor.old)) way.txn.0
-        (W.own actor.old) (W.own actor.new) (W.house actor.old) (W.house actor.new) (Prepares way.txn.0 (W.house actor.new) meaning) result }
+    ensures goes { Goes (among D.told D.faults W.between W.meanwhile) (faults_in D.faults (W.house actor.old)) way.txn.0
+        (known (W.own actor.old) (W.house actor.old)) (known (W.own actor.new) (W.house actor.new))
+        (Prepares way.txn.0 (W.house actor.new) meaning) result }
     ensures can { IfOk result (CanConcludeIn D.told (W.house actor.new) way) }
     ensures ends { IfErr result EndsRun }
 {

@@ -6,17 +6,18 @@ ghost use Rattle.hv_route.specs.Routes.{files_of};
 ghost use Rattle.hv_stands.specs.Files.{place_of_file};
 ghost use Rattle.hv_stands.specs.Laws.{HasFile};
 ghost use Rattle.hv_table_rows.specs.Putting.{CanPut};
-ghost use Rattle.hv_acts.specs.Meant.{places_of_files};
+ghost use Rattle.hv_table_reader.specs.hv_acts.specs.Meant.{places_of_files};
 ghost use Rattle.hv_steps.specs.Going.{faults_in, AddsOwn, IsOpenHouse};
 ghost use Rattle.hv_steps.specs.Preparing.{with_place, IsRefusal, IsFileDue, AreFilesDue, HasItsId, IsChangePut};
+ghost use Rattle.hv_actor.specs.Acting.{known};
 
 use hv_actor::Actor;
-use hv_acts::hv_telling::hv_house::HouseFault;
-use hv_acts::{ActFault, PutFile, ToldHouse};
 use hv_base::{Duplicate, List, NoMemory, TableId, TxnId, WriteId};
 use hv_logic::{Effect, TableInfo};
 use hv_route::{OutFile, route};
 use hv_shelf::{Place, Shelf};
+use hv_table_reader::hv_acts::hv_telling::hv_house::HouseFault;
+use hv_table_reader::hv_acts::{ActFault, PutFile, ToldHouse};
 use hv_table_rows::place_of_file;
 use std::alloc::Global;
 
@@ -60,7 +61,8 @@ fn put_file<D: Shelf + Drop, W: Actor<D, ToldHouse<D>>>(
     requires can { CanPut file.now }
     requires due { IsFileDue D.told (W.house actor.old) txn place file.now }
     ensures keeps { W.keeps actor.new }
-    ensures adds { AddsOwn D.faults W.between (W.own actor.old) (W.own actor.new) (W.house actor.old) (W.house actor.new) [] }
+    ensures adds { AddsOwn D.faults W.between txn.0 (known (W.own actor.old) (W.house actor.old))
+        (known (W.own actor.new) (W.house actor.new)) [] }
     ensures running { IfOk result (λ _. IsOpenHouse (W.house actor.new)) }
     ensures encoded { IfOk result (λ _. HasFile file.now) }
     ensures refusal { IfErr result (IsRefusal D.told D.faults W.meanwhile (faults_in D.faults (W.house actor.old)) txn (W.house actor.new)) }
@@ -91,7 +93,8 @@ fn put_one<D: Shelf + Drop, W: Actor<D, ToldHouse<D>>>(
     requires last { write.0 < write_end }
     requires due { IsFileDue D.told (W.house actor.old) txn (place_of_file table.0 write.0 file.now) file.now }
     ensures keeps { W.keeps actor.new }
-    ensures adds { AddsOwn D.faults W.between (W.own actor.old) (W.own actor.new) (W.house actor.old) (W.house actor.new) [] }
+    ensures adds { AddsOwn D.faults W.between txn.0 (known (W.own actor.old) (W.house actor.old))
+        (known (W.own actor.new) (W.house actor.new)) [] }
     ensures running { IfOk result (λ _. IsOpenHouse (W.house actor.new)) }
     ensures place { IfOk result (λ place. place ≡ place_of_file table.0 write.0 file.now) }
     ensures encoded { IfOk result (λ _. HasFile file.now) }
@@ -128,7 +131,8 @@ fn put_next<D: Shelf + Drop, W: Actor<D, ToldHouse<D>>>(
     requires last { write.0 < write_end }
     requires due { IsFileDue D.told (W.house actor.old) txn (place_of_file table.0 write.0 file.now) file.now }
     ensures keeps { W.keeps actor.new }
-    ensures adds { AddsOwn D.faults W.between (W.own actor.old) (W.own actor.new) (W.house actor.old) (W.house actor.new) [] }
+    ensures adds { AddsOwn D.faults W.between txn.0 (known (W.own actor.old) (W.house actor.old))
+        (known (W.own actor.new) (W.house actor.new)) [] }
     ensures running { IfOk result (λ _. IsOpenHouse (W.house actor.new)) }
     ensures places { IfOk result (λ _. places.new.items ≡ places.old.items ++ place_of_file table.0 write.0 file.now ∷ []) }
     ensures encoded { IfOk result (λ _. HasFile file.now) }
@@ -159,7 +163,8 @@ fn put_each<D: Shelf + Drop, W: Actor<D, ToldHouse<D>>>(
     requires last { write.0 < write_end }
     requires due { AreFilesDue D.told (W.house actor.old) txn table.0 write.0 files.now }
     ensures keeps { W.keeps actor.new }
-    ensures adds { AddsOwn D.faults W.between (W.own actor.old) (W.own actor.new) (W.house actor.old) (W.house actor.new) [] }
+    ensures adds { AddsOwn D.faults W.between txn.0 (known (W.own actor.old) (W.house actor.old))
+        (known (W.own actor.new) (W.house actor.new)) [] }
     ensures running { IfOk result (λ _. IsOpenHouse (W.house actor.new)) }
     ensures places { IfOk result (λ places. places.items ≡ places_of_files table.0 write.0 files.now) }
     ensures encoded { IfOk result (λ _. AllByRecursion HasFile files.now) }
@@ -190,7 +195,8 @@ fn put_files<D: Shelf + Drop, W: Actor<D, ToldHouse<D>>>(
     requires last { write.0 < write_end }
     requires due { AreFilesDue D.told (W.house actor.old) txn table.0 write.0 files.now }
     ensures keeps { W.keeps actor.new }
-    ensures adds { AddsOwn D.faults W.between (W.own actor.old) (W.own actor.new) (W.house actor.old) (W.house actor.new) [] }
+    ensures adds { AddsOwn D.faults W.between txn.0 (known (W.own actor.old) (W.house actor.old))
+        (known (W.own actor.new) (W.house actor.new)) [] }
     ensures running { IfOk result (λ _. IsOpenHouse (W.house actor.new)) }
     ensures places { IfOk result (λ put. put ≡ places_of_files table.0 write.0 files.now) }
     ensures encoded { IfOk result (λ _. AllByRecursion HasFile files.now) }
@@ -216,7 +222,8 @@ pub fn put<D: Shelf + Drop, W: Actor<D, ToldHouse<D>>>(
     requires can { AllByRecursion CanPut (files_of info.now.shape write.0 0 effect) }
     requires id { HasItsId D.told (W.house actor.old) txn info.now effect write.0 }
     ensures keeps { W.keeps actor.new }
-    ensures adds { AddsOwn D.faults W.between (W.own actor.old) (W.own actor.new) (W.house actor.old) (W.house actor.new) [] }
+    ensures adds { AddsOwn D.faults W.between txn.0 (known (W.own actor.old) (W.house actor.old))
+        (known (W.own actor.new) (W.house actor.new)) [] }
     ensures running { IfOk result (λ _. IsOpenHouse (W.house actor.new)) }
     ensures put { IfOk result (IsChangePut info.now effect write.0) }
     ensures refusal { IfErr result (IsRefusal D.told D.faults W.meanwhile (faults_in D.faults (W.house actor.old)) txn (W.house actor.new)) }

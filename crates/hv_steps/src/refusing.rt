@@ -2,26 +2,28 @@
 ghost use Rattle.std.specs.Prelude.{◌≡◌, ◌≤◌, ℕ, true, Some, None, [], IfOk, IfErr};
 ghost use Rattle.hv_history.specs.Answers.{cause_text};
 ghost use Rattle.hv_history.specs.declared.entry.Cause.TheVariants.{Memory};
-ghost use Rattle.hv_acts.specs.hv_telling.specs.hv_house.specs.Faults.{EndsRun};
-ghost use Rattle.hv_acts.specs.hv_telling.specs.hv_house.specs.House.{IsSmall};
-ghost use Rattle.hv_acts.specs.hv_telling.specs.Telling.{IsToldHouse};
-ghost use Rattle.hv_acts.specs.Told.{trail_in, book_in};
-ghost use Rattle.hv_acts.specs.Answers.{HasItsMark, NoTest, IsWhy, EntryFits};
-ghost use Rattle.hv_acts.specs.Meant.{IsAbortDue};
+ghost use Rattle.hv_table_reader.specs.hv_acts.specs.hv_telling.specs.hv_house.specs.Faults.{EndsRun};
+ghost use Rattle.hv_table_reader.specs.hv_acts.specs.hv_telling.specs.hv_house.specs.House.{IsSmall};
+ghost use Rattle.hv_table_reader.specs.hv_acts.specs.hv_telling.specs.Telling.{IsToldHouse};
+ghost use Rattle.hv_table_reader.specs.hv_acts.specs.Told.{trail_in, book_in};
+ghost use Rattle.hv_table_reader.specs.hv_acts.specs.Answers.{HasItsMark, NoTest, IsWhy, EntryFits};
+ghost use Rattle.hv_table_reader.specs.hv_acts.specs.Meant.{IsAbortDue};
 ghost use Rattle.hv_steps.specs.Ending.{aborting, EndsUncommitted, HasReplied};
 ghost use Rattle.hv_steps.specs.declared.reply.Done.TheVariants as done;
 ghost use Rattle.hv_steps.specs.Going.{faults_in, IsOpenHouse, AddsOwn, Goes, WasOpened, CauseKeeps};
-ghost use Rattle.hv_steps.specs.Leaving.{IsLeft, IsLeftBy, IsLeftFor, EndsAct, IsNeverUnfit, added_by, unaborted};
+ghost use Rattle.hv_steps.specs.Leaving.{IsLeft, IsLeftBy, IsLeftFor, EndsAct, IsNeverUnfit, added_by};
 ghost use Rattle.hv_steps.specs.Phases.{AbortsFor, NoCause};
+ghost use Rattle.hv_actor.specs.Acting.{among, known};
 
 use crate::ready::Reply;
 use crate::reply::Done;
+use crate::telling::tell_gone;
 use hv_actor::Actor;
-use hv_acts::hv_telling::hv_house::HouseFault;
-use hv_acts::{AbortFor, ActFault, ToldHouse};
 use hv_base::{List, NoMemory, TxnId};
 use hv_history::{Cause, cause_text};
 use hv_shelf::Shelf;
+use hv_table_reader::hv_acts::hv_telling::hv_house::HouseFault;
+use hv_table_reader::hv_acts::{AbortFor, ActFault, ToldHouse};
 use std::alloc::Global;
 
 /// The reply to an abort, by the entry at this place.
@@ -49,7 +51,8 @@ fn abort<D: Shelf + Drop, W: Actor<D, ToldHouse<D>>>(
     requires due { IsToldHouse D.told (W.house actor.old).house → IsAbortDue (trail_in (W.house actor.old)) txn cause }
     requires uncommitted { EndsUncommitted cause }
     ensures keeps { W.keeps actor.new }
-    ensures adds { AddsOwn D.faults W.between (W.own actor.old) (W.own actor.new) (W.house actor.old) (W.house actor.new)
+    ensures adds { AddsOwn D.faults W.between txn.0 (known (W.own actor.old) (W.house actor.old))
+        (known (W.own actor.new) (W.house actor.new))
         (added_by (λ (at : ℕ). aborting txn.0 cause) result) }
     ensures replied { IfOk result (λ at. HasReplied (book_in (W.house actor.new)) txn.0 (cause_text None cause) true (Some at)) }
     ensures left { IsLeft D.told W.meanwhile txn.0 (W.house actor.new) result }
@@ -61,14 +64,24 @@ fn abort<D: Shelf + Drop, W: Actor<D, ToldHouse<D>>>(
 }
 
 /// What comes of a transaction whose abort for want of memory was refused: others ended it, or the run stops.
-fn unaborted(why: ActFault) -> Result<Done, HouseFault>
+fn unaborted<D: Shelf + Drop, W: Actor<D, ToldHouse<D>>>(
+    alloc: Global,
+    actor: &mut W,
+    txn: TxnId,
+    why: ActFault,
+) -> Result<Done, HouseFault>
+    requires keeps { W.keeps actor.old }
+    requires left { IsLeftFor D.told W.meanwhile txn.0 (W.house actor.old) why }
     requires never { IsNeverUnfit why }
     requires ends { EndsAct why }
-    ensures same { result ≡ unaborted why }
+    ensures keeps { W.keeps actor.new }
+    ensures goes { (low : ℕ) → Goes (among D.told D.faults W.between W.meanwhile) low txn.0
+        (known (W.own actor.old) (W.house actor.old)) (known (W.own actor.new) (W.house actor.new))
+        (AbortsFor txn.0 (W.house actor.new) [] NoCause) result }
     ensures ends { IfErr result EndsRun }
 {
     match why {
-        ActFault::Ended { at } => Ok(Done::Gone { at }),
+        ActFault::Ended { at } => tell_gone(alloc, actor, txn, at),
         ActFault::House(fault) => Err(fault),
         ActFault::Full { .. } | ActFault::Held { .. } | ActFault::Broken { .. } | ActFault::Unfit =>
             { unreachable!() }
@@ -87,13 +100,14 @@ fn lack_with<D: Shelf + Drop, W: Actor<D, ToldHouse<D>>>(
     requires was { WasOpened (trail_in (W.house actor.old)) txn.0 }
     requires text { text.items ≡ cause_text None Memory }
     ensures keeps { W.keeps actor.new }
-    ensures goes { (low : ℕ) → Goes D.told D.faults W.between W.meanwhile low txn.0
-        (W.own actor.old) (W.own actor.new) (W.house actor.old) (W.house actor.new) (AbortsFor txn.0 (W.house actor.new) [] NoCause) result }
+    ensures goes { (low : ℕ) → Goes (among D.told D.faults W.between W.meanwhile) low txn.0
+        (known (W.own actor.old) (W.house actor.old)) (known (W.own actor.new) (W.house actor.new))
+        (AbortsFor txn.0 (W.house actor.new) [] NoCause) result }
     ensures ends { IfErr result EndsRun }
 {
     match abort(alloc, actor, txn, Cause::Memory) {
         Ok(at) => Ok(aborted(text, at)),
-        Err(why) => unaborted(why),
+        Err(why) => unaborted(alloc, actor, txn, why),
     }
 }
 
@@ -110,8 +124,9 @@ pub fn lack_memory<D: Shelf + Drop, W: Actor<D, ToldHouse<D>>>(
     requires running { IsOpenHouse (W.house actor.old) }
     requires was { WasOpened (trail_in (W.house actor.old)) txn.0 }
     ensures keeps { W.keeps actor.new }
-    ensures goes { (low : ℕ) → Goes D.told D.faults W.between W.meanwhile low txn.0
-        (W.own actor.old) (W.own actor.new) (W.house actor.old) (W.house actor.new) (AbortsFor txn.0 (W.house actor.new) [] NoCause) result }
+    ensures goes { (low : ℕ) → Goes (among D.told D.faults W.between W.meanwhile) low txn.0
+        (known (W.own actor.old) (W.house actor.old)) (known (W.own actor.new) (W.house actor.new))
+        (AbortsFor txn.0 (W.house actor.new) [] NoCause) result }
     ensures ends { IfErr result EndsRun }
 {
     match cause_text(alloc, &None, &Cause::Memory) {
@@ -132,8 +147,9 @@ fn end_failed<D: Shelf + Drop, W: Actor<D, ToldHouse<D>>>(
     requires ends { EndsRun fault }
     requires was { WasOpened (trail_in (W.house actor.old)) txn.0 }
     ensures keeps { W.keeps actor.new }
-    ensures goes { (low : ℕ) → Goes D.told D.faults W.between W.meanwhile low txn.0
-        (W.own actor.old) (W.own actor.new) (W.house actor.old) (W.house actor.new) (AbortsFor txn.0 (W.house actor.new) [] NoCause) result }
+    ensures goes { (low : ℕ) → Goes (among D.told D.faults W.between W.meanwhile) low txn.0
+        (known (W.own actor.old) (W.house actor.old)) (known (W.own actor.new) (W.house actor.new))
+        (AbortsFor txn.0 (W.house actor.new) [] NoCause) result }
     ensures ends { IfErr result EndsRun }
 {
     match fault {
@@ -159,12 +175,13 @@ pub fn end_without<D: Shelf + Drop, W: Actor<D, ToldHouse<D>>>(
     requires ends { EndsAct why }
     requires was { WasOpened (trail_in (W.house actor.old)) txn.0 }
     ensures keeps { W.keeps actor.new }
-    ensures goes { (low : ℕ) → Goes D.told D.faults W.between W.meanwhile low txn.0
-        (W.own actor.old) (W.own actor.new) (W.house actor.old) (W.house actor.new) (AbortsFor txn.0 (W.house actor.new) [] NoCause) result }
+    ensures goes { (low : ℕ) → Goes (among D.told D.faults W.between W.meanwhile) low txn.0
+        (known (W.own actor.old) (W.house actor.old)) (known (W.own actor.new) (W.house actor.new))
+        (AbortsFor txn.0 (W.house actor.new) [] NoCause) result }
     ensures ends { IfErr result EndsRun }
 {
     match why {
-        ActFault::Ended { at } => Ok(Done::Gone { at }),
+        ActFault::Ended { at } => tell_gone(alloc, actor, txn, at),
         ActFault::House(fault) => end_failed(alloc, actor, txn, fault),
         ActFault::Full { .. } | ActFault::Held { .. } | ActFault::Broken { .. } | ActFault::Unfit =>
             { lack_memory(alloc, actor, txn) }
@@ -189,7 +206,8 @@ fn refuse_with<D: Shelf + Drop, W: Actor<D, ToldHouse<D>>>(
     requires text { text.items ≡ cause_text None cause }
     ensures keeps { W.keeps actor.new }
     ensures goes { (low : ℕ) → low ≤ faults_in D.faults (W.house actor.old) → CauseKeeps low (faults_in D.faults (W.house actor.old)) cause
-        → Goes D.told D.faults W.between W.meanwhile low txn.0 (W.own actor.old) (W.own actor.new) (W.house actor.old) (W.house actor.new)
+        → Goes (among D.told D.faults W.between W.meanwhile) low txn.0 (known (W.own actor.old) (W.house actor.old))
+        (known (W.own actor.new) (W.house actor.new))
         (AbortsFor txn.0 (W.house actor.new) [] (λ why. why ≡ cause)) result }
     ensures ends { IfErr result EndsRun }
 {
@@ -219,7 +237,8 @@ pub fn refuse<D: Shelf + Drop, W: Actor<D, ToldHouse<D>>>(
     requires was { WasOpened (trail_in (W.house actor.old)) txn.0 }
     ensures keeps { W.keeps actor.new }
     ensures goes { (low : ℕ) → low ≤ faults_in D.faults (W.house actor.old) → CauseKeeps low (faults_in D.faults (W.house actor.old)) cause
-        → Goes D.told D.faults W.between W.meanwhile low txn.0 (W.own actor.old) (W.own actor.new) (W.house actor.old) (W.house actor.new)
+        → Goes (among D.told D.faults W.between W.meanwhile) low txn.0 (known (W.own actor.old) (W.house actor.old))
+        (known (W.own actor.new) (W.house actor.new))
         (AbortsFor txn.0 (W.house actor.new) [] (λ why. why ≡ cause)) result }
     ensures ends { IfErr result EndsRun }
 {

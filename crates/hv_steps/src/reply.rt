@@ -6,8 +6,8 @@ use hv_effect::Touching;
 pub enum Done {
     /// By an entry of its own, with this reply.
     Replied(Reply),
-    /// Others ended it, by the entry at this place of the book.
-    Gone { at: u64 },
+    /// Others ended it, and this is what is told of their entry.
+    Gone(Reply),
 }
 
 /// What came of opening a statement and starting it.
@@ -27,6 +27,13 @@ pub enum Opened {
 #[derive(Drop)]
 pub enum Outcome {
     Means(Touching),
+    Ended(Done),
+}
+
+/// What came of the aborts that a statement asks for: it has asked for all, or it has ended on the way.
+#[derive(Drop)]
+pub enum Asked {
+    All,
     Ended(Done),
 }
 

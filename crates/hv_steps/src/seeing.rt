@@ -13,29 +13,26 @@ ghost use Rattle.hv_history.specs.Shown.{filled, is_plain, listed_for, show_of};
 ghost use Rattle.hv_history.specs.declared.entry.Cause.TheVariants.{ReadFault};
 ghost use Rattle.hv_stands.specs.Running.{Asking};
 ghost use Rattle.hv_stands.specs.Reading.{table_of_name};
-ghost use Rattle.hv_acts.specs.hv_telling.specs.hv_house.specs.Faults.{EndsRun};
-ghost use Rattle.hv_acts.specs.hv_telling.specs.hv_house.specs.House.{IsSmall};
-ghost use Rattle.hv_acts.specs.hv_telling.specs.hv_house.specs.declared.fault.HouseFault.TheVariants as fault;
-ghost use Rattle.hv_acts.specs.hv_telling.specs.hv_house.specs.declared.fault.RowFault.TheVariants as row_fault;
-ghost use Rattle.hv_acts.specs.hv_telling.specs.Telling.{IsToldHouse};
-ghost use Rattle.hv_acts.specs.Told.{trail_in};
-ghost use Rattle.hv_acts.specs.Answers.{HasItsMark};
-ghost use Rattle.hv_acts.specs.Meant.{IsAbortDue};
-ghost use Rattle.hv_acts.specs.Reading.{HasPlace, state_then};
+ghost use Rattle.hv_table_reader.specs.hv_acts.specs.hv_telling.specs.hv_house.specs.Faults.{EndsRun};
+ghost use Rattle.hv_table_reader.specs.hv_acts.specs.hv_telling.specs.hv_house.specs.House.{IsSmall};
+ghost use Rattle.hv_table_reader.specs.hv_acts.specs.hv_telling.specs.hv_house.specs.declared.fault.HouseFault.TheVariants as fault;
+ghost use Rattle.hv_table_reader.specs.declared.fault.RowFault.TheVariants as row_fault;
+ghost use Rattle.hv_table_reader.specs.hv_acts.specs.hv_telling.specs.Telling.{IsToldHouse};
+ghost use Rattle.hv_table_reader.specs.hv_acts.specs.Told.{trail_in};
+ghost use Rattle.hv_table_reader.specs.hv_acts.specs.Answers.{HasItsMark};
+ghost use Rattle.hv_table_reader.specs.hv_acts.specs.Meant.{IsAbortDue};
+ghost use Rattle.hv_table_reader.specs.hv_acts.specs.Reading.{HasPlace, state_then};
 ghost use Rattle.hv_steps.specs.Ending.{aborting, EndsUncommitted};
-ghost use Rattle.hv_steps.specs.Tables.{RisesTo};
+ghost use Rattle.hv_table_reader.specs.Tables.{RisesTo};
 ghost use Rattle.hv_steps.specs.Going.{IsOpenHouse, faults_in, Goes, WasOnWay, WasOpened, CauseKeeps};
 ghost use Rattle.hv_steps.specs.Phases.{ComesTo, Sees};
 ghost use Rattle.hv_steps.specs.Seeing.{tables_then, IsSeenAs, AreSeenOfSome, AddsSeen, IsSeen, Looks, IsUnseen, IsNarrow, EndsFor, EndsUnseen};
+ghost use Rattle.hv_actor.specs.Acting.{among, known};
 
-use crate::acting::show_book;
 use crate::ready::Way;
 use crate::refusing::refuse;
 use crate::reply::Outcome;
-use crate::tables::see_table;
 use hv_actor::Actor;
-use hv_acts::ToldHouse;
-use hv_acts::hv_telling::hv_house::{HouseFault, RowFault};
 use hv_ast::{Rows, Show, Stmt};
 use hv_base::{Duplicate, NoMemory, Text, TxnId};
 use hv_effect::{Touching, meaning_in, untouched};
@@ -43,6 +40,9 @@ use hv_history::{Cause, Shown};
 use hv_logic::{Meaning, Seen, named};
 use hv_names::names_in;
 use hv_shelf::Shelf;
+use hv_table_reader::hv_acts::ToldHouse;
+use hv_table_reader::hv_acts::hv_telling::hv_house::HouseFault;
+use hv_table_reader::{RowFault, see_table, show_book};
 use std::alloc::Global;
 
 fn are_values(rows: &Rows) -> bool
@@ -61,7 +61,7 @@ fn reads_rows(tree: &Stmt) -> bool
     match tree {
         Stmt::Insert(insert) => insert.overwrite || !are_values(&insert.rows),
         Stmt::CreateTable(_) | Stmt::DropTable(_) => false,
-        Stmt::Show(_) | Stmt::Describe(_) | Stmt::Set(_) => false,
+        Stmt::Show(_) | Stmt::Describe(_) | Stmt::Set(_) | Stmt::AbortTransactions(_) => false,
         _ => true,
     }
 }
@@ -99,8 +99,8 @@ fn look_now<D: Shelf + Drop, W: Actor<D, ToldHouse<D>>>(
     requires running { IsOpenHouse (W.house actor.old) }
     requires place { HasPlace (trail_in (W.house actor.old)) place }
     ensures keeps { W.keeps actor.new }
-    ensures looks { Looks D.told D.faults W.between W.meanwhile by (W.own actor.old) (W.own actor.new)
-        (W.house actor.old) (W.house actor.new) result }
+    ensures looks { Looks (among D.told D.faults W.between W.meanwhile) by
+        (known (W.own actor.old) (W.house actor.old)) (known (W.own actor.new) (W.house actor.new)) result }
     ensures seen { IfOk result (IsSeenAs (IsToldHouse D.told (W.house actor.old).house) reads
         (table_of_name name.now (tables_then (W.house actor.old) place))) }
 {
@@ -123,8 +123,8 @@ fn look<D: Shelf + Drop, W: Actor<D, ToldHouse<D>>>(
     requires place { HasPlace (trail_in (W.house actor.old)) place }
     requires seen { AreSeenOfSome (IsToldHouse D.told (W.house actor.old).house) reads (tables_then (W.house actor.old) place) seen.now }
     ensures keeps { W.keeps actor.new }
-    ensures looks { Looks D.told D.faults W.between W.meanwhile by (W.own actor.old) (W.own actor.new)
-        (W.house actor.old) (W.house actor.new) result }
+    ensures looks { Looks (among D.told D.faults W.between W.meanwhile) by
+        (known (W.own actor.old) (W.house actor.old)) (known (W.own actor.new) (W.house actor.new)) result }
     ensures seen { IfOk result (IsSeenAs (IsToldHouse D.told (W.house actor.old).house) reads
         (table_of_name name.now (tables_then (W.house actor.old) place))) }
     ensures once { IsSome (named name.now seen.now) → actor.new ≡ actor.old }
@@ -150,8 +150,8 @@ fn see_next<D: Shelf + Drop, W: Actor<D, ToldHouse<D>>>(
     requires place { HasPlace (trail_in (W.house actor.old)) place }
     requires seen { AreSeenOfSome (IsToldHouse D.told (W.house actor.old).house) reads (tables_then (W.house actor.old) place) seen.old.items }
     ensures keeps { W.keeps actor.new }
-    ensures looks { Looks D.told D.faults W.between W.meanwhile by (W.own actor.old) (W.own actor.new)
-        (W.house actor.old) (W.house actor.new) result }
+    ensures looks { Looks (among D.told D.faults W.between W.meanwhile) by
+        (known (W.own actor.old) (W.house actor.old)) (known (W.own actor.new) (W.house actor.new)) result }
     ensures seen { OnOk result (AddsSeen (IsToldHouse D.told (W.house actor.old).house) reads (tables_then (W.house actor.old) place)
         name.now seen.old.items seen.new.items) }
 {
@@ -173,8 +173,8 @@ fn seen<D: Shelf + Drop, W: Actor<D, ToldHouse<D>>>(
     requires running { IsOpenHouse (W.house actor.old) }
     requires place { HasPlace (trail_in (W.house actor.old)) way.place }
     ensures keeps { W.keeps actor.new }
-    ensures looks { Looks D.told D.faults W.between W.meanwhile way.txn (W.own actor.old) (W.own actor.new)
-        (W.house actor.old) (W.house actor.new) result }
+    ensures looks { Looks (among D.told D.faults W.between W.meanwhile) way.txn
+        (known (W.own actor.old) (W.house actor.old)) (known (W.own actor.new) (W.house actor.new)) result }
     ensures seen { IfOk result (λ seen. IsSeen D.told (W.house actor.new) way.place tree.now seen.items) }
 {
     let names = names_in(alloc, tree)?;
@@ -260,8 +260,8 @@ fn shown<D: Shelf + Drop, W: Actor<D, ToldHouse<D>>>(
     requires running { IsOpenHouse (W.house actor.old) }
     requires place { HasPlace (trail_in (W.house actor.old)) way.place }
     ensures keeps { W.keeps actor.new }
-    ensures looks { Looks D.told D.faults W.between W.meanwhile way.txn (W.own actor.old) (W.own actor.new)
-        (W.house actor.old) (W.house actor.new) result }
+    ensures looks { Looks (among D.told D.faults W.between W.meanwhile) way.txn
+        (known (W.own actor.old) (W.house actor.old)) (known (W.own actor.new) (W.house actor.new)) result }
     ensures shown { IfOk result (λ shown. shown
         ≡ listed_for (state_then (trail_in (W.house actor.new)) way.place) tree.now) }
 {
@@ -319,8 +319,8 @@ fn see_meaning<D: Shelf + Drop, W: Actor<D, ToldHouse<D>>>(
     requires place { HasPlace (trail_in (W.house actor.old)) way.place }
     requires built { IsBuilt tree.now }
     ensures keeps { W.keeps actor.new }
-    ensures looks { Looks D.told D.faults W.between W.meanwhile way.txn (W.own actor.old) (W.own actor.new)
-        (W.house actor.old) (W.house actor.new) result }
+    ensures looks { Looks (among D.told D.faults W.between W.meanwhile) way.txn
+        (known (W.own actor.old) (W.house actor.old)) (known (W.own actor.new) (W.house actor.new)) result }
     ensures comes { IfOk result (ComesTo D.told (W.house actor.new) way tree.now) }
 {
     let shown = shown(alloc, actor, way, tree)?;
@@ -345,7 +345,8 @@ fn cut_off<D: Shelf + Drop, W: Actor<D, ToldHouse<D>>>(
     requires was { WasOpened (trail_in (W.house actor.old)) txn.0 }
     ensures keeps { W.keeps actor.new }
     ensures goes { (low : ℕ) → low ≤ faults_in D.faults (W.house actor.old) → CauseKeeps low (faults_in D.faults (W.house actor.old)) cause
-        → Goes D.told D.faults W.between W.meanwhile low txn.0 (W.own actor.old) (W.own actor.new) (W.house actor.old) (W.house actor.new)
+        → Goes (among D.told D.faults W.between W.meanwhile) low txn.0 (known (W.own actor.old) (W.house actor.old))
+        (known (W.own actor.new) (W.house actor.new))
         (EndsFor txn.0 (W.house actor.new) cause) result }
     ensures ends { IfErr result EndsRun }
 {
@@ -365,7 +366,8 @@ fn end_halted<D: Shelf + Drop, W: Actor<D, ToldHouse<D>>>(
     ensures keeps { W.keeps actor.new }
     ensures goes { (low : ℕ) → low ≤ faults_in D.faults (W.house actor.old)
         → RisesTo low (faults_in D.faults (W.house actor.old)) (row_fault.House fault)
-        → Goes D.told D.faults W.between W.meanwhile low txn.0 (W.own actor.old) (W.own actor.new) (W.house actor.old) (W.house actor.new)
+        → Goes (among D.told D.faults W.between W.meanwhile) low txn.0 (known (W.own actor.old) (W.house actor.old))
+        (known (W.own actor.new) (W.house actor.new))
         (EndsUnseen D.told (W.house actor.new) txn.0) result }
     ensures ends { IfErr result EndsRun }
 {
@@ -388,7 +390,8 @@ fn end_unseen<D: Shelf + Drop, W: Actor<D, ToldHouse<D>>>(
     requires was { WasOpened (trail_in (W.house actor.old)) txn.0 }
     ensures keeps { W.keeps actor.new }
     ensures goes { (low : ℕ) → low ≤ faults_in D.faults (W.house actor.old) → RisesTo low (faults_in D.faults (W.house actor.old)) fault
-        → Goes D.told D.faults W.between W.meanwhile low txn.0 (W.own actor.old) (W.own actor.new) (W.house actor.old) (W.house actor.new)
+        → Goes (among D.told D.faults W.between W.meanwhile) low txn.0 (known (W.own actor.old) (W.house actor.old))
+        (known (W.own actor.new) (W.house actor.new))
         (EndsUnseen D.told (W.house actor.new) txn.0) result }
     ensures ends { IfErr result EndsRun }
 {
@@ -412,8 +415,8 @@ pub fn see<D: Shelf + Drop, W: Actor<D, ToldHouse<D>>>(
     requires running { IsOpenHouse (W.house actor.old) }
     requires was { (asking : Asking) × WasOnWay (trail_in (W.house actor.old)) asking way tree.now }
     ensures keeps { W.keeps actor.new }
-    ensures goes { Goes D.told D.faults W.between W.meanwhile (faults_in D.faults (W.house actor.old)) way.txn.0
-        (W.own actor.old) (W.own actor.new) (W.house actor.old) (W.house actor.new)
+    ensures goes { Goes (among D.told D.faults W.between W.meanwhile) (faults_in D.faults (W.house actor.old)) way.txn.0
+        (known (W.own actor.old) (W.house actor.old)) (known (W.own actor.new) (W.house actor.new))
         (Sees D.told (W.house actor.new) way tree.now) result }
     ensures ends { IfErr result EndsRun }
 {

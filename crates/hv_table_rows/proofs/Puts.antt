@@ -11,6 +11,7 @@ use Rattle.hv_rowfile.specs.declared.record.Rec.{Rec}
 use Rattle.hv_rowfile.specs.declared.record.Rec.TheVariants.{Insert, Delete}
 use Rattle.hv_rowfile.specs.Layout.{CanWrite, RecIsTaken, Follows, RisesFrom, id_of}
 use Rattle.hv_route.specs.declared.files.OutFile.{OutFile}
+use Rattle.hv_shelf.specs.Causes.{SoftCause}
 use Rattle.hv_table_rows.specs.Putting.{CanPut, is_behind, may_follow, can_delete_from, can_put}
 
 -- ---- deletes that a file takes
@@ -67,3 +68,15 @@ can-write file can passed = by file.deletes refl passed
     by true is e =
         subst (λ k. CanWrite k file.bucket file.recs) (sym is)
         (record { each = each file.bucket None file.recs e; rising = rising file.bucket None file.recs e })
+
+-- ---- where the store wasn't called
+
+pub no_call : (Fails : Type 0) (faults hard : ℕ) → (Fails → ⊥) → SoftCause Fails faults faults hard hard
+no_call Fails faults hard not_so = record {
+  later = omega arith;
+  hard_later = omega arith;
+  failed = λ is. absurd (not_so is);
+  failed_last = λ is last. absurd (not_so is);
+  rose_last = λ rose last. absurd (omega (arith, rose));
+  below_last = λ below. refl;
+}

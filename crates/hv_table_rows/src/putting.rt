@@ -2,6 +2,7 @@ ghost use Rattle.std.specs.Prelude.{◌≡◌, ◌<◌, ◌≤◌, true, false, 
 ghost use Rattle.hv_base.specs.Told.{Moves};
 ghost use Rattle.hv_dirs.specs.Names.{write_end};
 ghost use Rattle.hv_shelf.specs.declared.fault.ShelfFault.TheVariants as why;
+ghost use Rattle.hv_shelf.specs.Causes.{SoftCause};
 ghost use Rattle.hv_shelf.specs.Disk.{HasFile, TornFile};
 ghost use Rattle.hv_stands.specs.Files.{place_of_file};
 ghost use Rattle.hv_table_rows.specs.Faults.{StoreCause};
@@ -88,6 +89,7 @@ pub fn place_of_file(
 /// # Errors
 /// `NoMemory` where memory lacked: the store is as it was. `Failed` where the store failed: at this place may be any bytes
 /// then, or no file.
+#[tactic(auto, using(crate::proofs::Puts::no_call))]
 pub fn put_file<D: Shelf>(
     alloc: Global,
     shelf: &mut D,
@@ -102,6 +104,8 @@ pub fn put_file<D: Shelf>(
         → Moves (TornFile place.now) (D.told shelf.old) (D.told shelf.new) }
     ensures no_memory { IsErrOf result why.NoMemory → D.told shelf.new ≡ D.told shelf.old }
     ensures cause { StoreCause (D.faults shelf.old) (D.faults shelf.new) (IsErrOf result why.Failed) }
+    ensures hard { SoftCause (IsErrOf result why.Failed)
+        (D.faults shelf.old) (D.faults shelf.new) (D.hard shelf.old) (D.hard shelf.new) }
 {
     if !can_put(file) {
         return Err(ShelfFault::NoMemory);

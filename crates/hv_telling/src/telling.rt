@@ -8,7 +8,7 @@ ghost use Rattle.hv_house.specs.hv_table_rows.specs.Putting.{CanPut, IsEncoded, 
 ghost use Rattle.hv_trail.specs.Kept.{trail_of};
 ghost use Rattle.hv_trail.specs.Steps.{Step};
 ghost use Rattle.hv_trail.specs.Steps as calls;
-ghost use Rattle.hv_house.specs.Faults.{FileCause, EndsRun};
+ghost use Rattle.hv_house.specs.Faults.{FileCause, EndsRun, HardStep};
 ghost use Rattle.hv_house.specs.House.{entries_of, IsSmall, BeginFits, beginning_of, AreNoted, IsNoted, AreHalted, IsHalted};
 ghost use Rattle.hv_house.specs.Steps.{seen_of, outcome_of, IsMarked, IsOwnFile, PutStep};
 ghost use Rattle.hv_telling.specs.Telling.{IsToldHouse, IsWhole, StaysWhole, StillOpens, IsTrueNow, IsMeantFile};
@@ -49,6 +49,8 @@ pub fn note<D: Shelf>(
     ensures step { Step D.told D.faults (calls.Note entry) (outcome_of result)
         (seen_of house.old) (seen_of house.new) }
     ensures cause { FileCause (D.faults house.old.shelf) (D.faults house.new.shelf) result }
+    ensures hard { HardStep (D.hard house.old.shelf) (D.hard house.new.shelf)
+        house.old.trail.closed house.new.trail.closed }
 {
     house.note(entry, tree)
 }
@@ -87,6 +89,8 @@ pub fn begin<D: Shelf>(
         (calls.Begin (record { 0 = next_number (entries_of house.old) }) session number text)
         (outcome_of result) (seen_of house.old) (seen_of house.new) }
     ensures cause { FileCause (D.faults house.old.shelf) (D.faults house.new.shelf) result }
+    ensures hard { HardStep (D.hard house.old.shelf) (D.hard house.new.shelf)
+        house.old.trail.closed house.new.trail.closed }
 {
     house.begin(session, number, text, tree)
 }
@@ -115,6 +119,8 @@ pub fn put<D: Shelf>(
         → IfErr result (λ _. StillOpens D.told house.new) }
     ensures start { house.new.start ≡ house.old.start }
     ensures put { PutStep D.told D.faults by place (bytes_of file.now) house.old house.new result }
+    ensures hard { HardStep (D.hard house.old.shelf) (D.hard house.new.shelf)
+        house.old.trail.closed house.new.trail.closed }
     ensures encoded { OnOk result (IsEncoded file.now) }
 {
     house.put(alloc, by, place, file)

@@ -176,7 +176,7 @@ meant-same state event = λ i statement. record statement { meaning = first_know
 start-same : (state : State) (event : Entry) (number : ℕ) → started state number ≡ started (state_there (moment_of state event)) number
 start-same state event number = λ i t. record t {
   statements = changed_at (meant-same state event i) t.statements number;
-  snapshot = first_of t.snapshot (record { place = state.entries; tables = state.tables });
+  snapshot = first_of t.snapshot (record { place = state.entries; tables = state.tables; opened = length state.transactions });
 }
 
 -- an entry makes of the one of its number what its moment says, and leaves the others

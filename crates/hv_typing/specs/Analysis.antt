@@ -89,6 +89,7 @@ is_form (stmt.DropTable drop) = true
 is_form (stmt.Show show) = is_shown show
 is_form (stmt.Describe table) = true
 is_form (stmt.Set setting) = true
+is_form (stmt.AbortTransactions txns) = true
 is_form _ = false
 
 -- ----
@@ -114,6 +115,7 @@ form_analysed tables (stmt.DropTable drop) = dropped tables drop
 form_analysed tables (stmt.Show show) = show_analysed tables show
 form_analysed tables (stmt.Describe table) = described tables table
 form_analysed tables (stmt.Set setting) = set_analysed setting
+form_analysed tables (stmt.AbortTransactions txns) = Ok logic.Nothing
 form_analysed tables _ = Err refusal.Syntax
 
 unfoldable pub analysed : List TableInfo → Stmt → Result Logic Refusal

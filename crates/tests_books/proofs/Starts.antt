@@ -63,11 +63,11 @@ module _ (state : State) (meaning : Option Meaning) where
   said-at (x ∷ xs) (suc n) is = ap (λ (ys : List Statement). x ∷ ys) (said-at xs n is)
 
   begun-started : (number : ℕ) (transaction : Transaction) → meaning ≡ comes_to state (statement_at transaction number)
-      → begun state.entries state.tables number meaning transaction ≡ started state number transaction
+      → begun state.entries (length state.transactions) state.tables number meaning transaction ≡ started state number transaction
   begun-started number transaction is =
       λ k. record transaction {
         statements = said-at transaction.statements number is k;
-        snapshot = first_of transaction.snapshot (record { place = state.entries; tables = state.tables });
+        snapshot = first_of transaction.snapshot (record { place = state.entries; tables = state.tables; opened = length state.transactions });
       }
 
 comes-alone : (state : State) (place : ℕ) (o : Option Statement) → comes_to (state_at place state.transactions state.tables) o ≡ comes_to state o
@@ -77,7 +77,7 @@ comes-alone state place (Some statement) = meaning-alone state place statement.t
 -- what it comes to doesn't rest on the place
 pub begun-now : (place : ℕ) (transactions : List Transaction) (tables : List Table) (number : ℕ) (meaning : Option Meaning) (transaction : Transaction)
     → meaning ≡ comes_to (state_now transactions tables) (statement_at transaction number)
-    → begun place tables number meaning transaction ≡ started (state_at place transactions tables) number transaction
+    → begun place (length transactions) tables number meaning transaction ≡ started (state_at place transactions tables) number transaction
 begun-now place transactions tables number meaning transaction is =
     begun-started (state_at place transactions tables) meaning number transaction
     (is ∙ comes-alone (state_at place transactions tables) 0 (statement_at transaction number))

@@ -19,7 +19,7 @@ started-alone : (state : State) (number : ℕ) (transaction : Transaction)
 started-alone state number transaction =
     λ k. record transaction {
       statements = changed_at (λ (s : Statement). record s { meaning = first_known s.meaning (meaning-alone state state.entries s.text k) }) transaction.statements number;
-      snapshot = first_of transaction.snapshot (record { place = state.entries; tables = state.tables });
+      snapshot = first_of transaction.snapshot (record { place = state.entries; tables = state.tables; opened = length state.transactions });
     }
 
 transactions-alone : (state : State) (event : Entry)

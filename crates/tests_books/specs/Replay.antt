@@ -33,11 +33,11 @@ comes_at state number (Some transaction) = comes_to state (statement_of transact
 abbrev pub said_of : Option Meaning → Statement → Statement
 said_of meaning statement = record statement { meaning = first_known statement.meaning meaning }
 
-abbrev pub begun : ℕ → List Table → ℕ → Option Meaning → Transaction → Transaction
-begun place tables number meaning transaction =
+abbrev pub begun : ℕ → ℕ → List Table → ℕ → Option Meaning → Transaction → Transaction
+begun place opened_ tables number meaning transaction =
     record transaction {
       statements = changed_at (said_of meaning) transaction.statements number;
-      snapshot = first_of transaction.snapshot (record { place = place; tables = tables });
+      snapshot = first_of transaction.snapshot (record { place = place; tables = tables; opened = opened_ });
     }
 
 -- ---- what an entry that is no Start does at this place to the transaction that it names

@@ -113,16 +113,22 @@ fn copied_tables(alloc: Global, tables: &[Table]) -> Result<List<Table>, NoMemor
 fn see(
     alloc: Global,
     place: u64,
+    opened: u64,
     tables: &[Table],
     snapshot: Option<Snapshot>,
 ) -> Result<Option<Snapshot>, NoMemory>
-    ensures { IfOk result (λ seen. seen ≡ first_of snapshot (record { place = place; tables = tables.now })) }
+    ensures { IfOk result (λ seen. seen
+        ≡ first_of snapshot (record { place = place; tables = tables.now; opened = opened })) }
 {
     match snapshot {
         Some(before) => Ok(Some(before)),
         None => {
             let tables = copied_tables(alloc, tables)?;
-            Ok(Some(Snapshot { place, tables }))
+            Ok(Some(Snapshot {
+                place,
+                tables,
+                opened,
+            }))
         }
     }
 }
@@ -130,18 +136,20 @@ fn see(
 fn begin(
     alloc: Global,
     place: u64,
+    opened: u64,
     tables: &[Table],
     number: u32,
     meaning: Option<Boxed<Meaning>>,
     transaction: &mut Transaction,
 ) -> Result<(), NoMemory>
-    ensures { OnOk result (transaction.new ≡ begun place tables.now number meaning transaction.old) }
+    ensures { OnOk result (transaction.new
+        ≡ begun place opened tables.now number meaning transaction.old) }
 {
     let mut statements = mem::replace(&mut transaction.statements, List::empty(alloc)).into_vec();
     mean(number, meaning, &mut statements);
     transaction.statements = List::from_vec(statements);
     let before = mem::replace(&mut transaction.snapshot, None);
-    transaction.snapshot = see(alloc, place, tables, before)?;
+    transaction.snapshot = see(alloc, place, opened, tables, before)?;
     Ok(())
 }
 
@@ -241,8 +249,9 @@ pub fn start(
         return Ok(());
     };
     let meaning = coming_at(alloc, transactions, tables, number, at)?;
+    let opened = transactions.len() as u64;
     let transaction = &mut transactions[at];
-    begin(alloc, place, tables, number, meaning, transaction)?;
+    begin(alloc, place, opened, tables, number, meaning, transaction)?;
     Ok(())
 }
 

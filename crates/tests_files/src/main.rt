@@ -19,22 +19,24 @@ mod steps;
 mod words;
 
 use std::io;
-use std::io::{BufRead, BufReader};
+
+/// Whether a row is answered as it is to be; one that isn't is printed.
+fn is_so(rt: &HostRuntime, row: &str) -> io::Result<bool> {
+    let (asked, wanted) = row.split_once(" → ").unwrap_or(("", "an answer"));
+    let mut out = String::new(rt.alloc());
+    let so = rows::answer(rt, &mut out, asked).is_ok() && out.as_str().trim() == wanted;
+    if !so {
+        println!(rt; "not so: {row}: {out}")?;
+    }
+    Ok(so)
+}
 
 fn main(rt: HostRuntime) -> io::Result<()> {
-    let alloc = rt.alloc();
+    let text = io::read_to_string(rt.alloc(), rt.reader())?;
     let mut right = 0u64;
-    for line in BufReader::new(alloc, rt.reader())?.lines(alloc) {
-        let line = line?;
-        if line.starts_with("#") {
-            continue;
-        }
-        let (asked, wanted) = line.as_str().split_once(" → ").unwrap_or(("", "an answer"));
-        let mut out = String::new(alloc);
-        if rows::answer(&rt, &mut out, asked).is_ok() && out.as_str().trim() == wanted {
+    for row in text.lines() {
+        if !row.starts_with("#") && is_so(&rt, row)? {
             right = right.wrapping_add(1);
-        } else {
-            println!(rt; "not so: {line}: {out}")?;
         }
     }
     println!(rt; "{right} rows are so")

@@ -1,42 +1,25 @@
 use crate::events::{events, opens};
-use crate::folders::is_so;
-use crate::steps::{counts, dir, file, journal_length, list, read, say, writes};
+use crate::folders::{is_so, open};
+use crate::steps::{say, step};
 use crate::words::{number, piece};
 use hv_base::NoMemory;
-use hv_files::FileShelf;
 use hv_shelf::{Fail, MemoryShelf, Op, Shelf};
+use std::fs::File;
+use std::rt::Files;
 
-/// A call of a store, or of the folder where the program runs.
-pub fn step<D: Shelf>(
-    rt: &HostRuntime,
-    out: &mut String,
-    shelf: &mut D,
-    call: &str,
-) -> Result<(), NoMemory> {
-    let alloc = rt.alloc();
-    let words: Vec<&str> = call.split(';').collect(alloc)?;
-    let at = number(&words, 1);
-    match piece(&words, 0) {
-        "put" | "get" => file(alloc, out, shelf, &words),
-        "rename" | "remove" => dir(alloc, out, shelf, &words),
-        "list" => list(alloc, out, shelf),
-        "length" => journal_length(out, shelf),
-        "read" => read(out, shelf, at),
-        "counts" => counts(out, shelf),
-        "sync" => say(out, shelf.journal_sync().is_ok()),
-        "write" => say(out, writes(shelf, at, piece(&words, 2))),
-        _ => say(out, is_so(rt, &words)),
-    }
-}
-
-fn all_steps<D: Shelf>(
-    rt: &HostRuntime,
+/// Calls of a store, or of the folder where the program runs.
+fn all_steps<R: Files<File = File> + AllocGlobal + Copy, D: Shelf>(
+    rt: &R,
     out: &mut String,
     shelf: &mut D,
     calls: &str,
 ) -> Result<(), NoMemory> {
     for call in calls.split('|') {
-        step(rt, out, shelf, call)?;
+        let said = match is_so(rt, call) {
+            Some(so) => say(out, so),
+            None => step(rt.alloc(), out, shelf, call),
+        };
+        said?;
     }
     Ok(())
 }
@@ -66,40 +49,43 @@ fn op_of(name: &str) -> Op {
 
 /// With a store in memory that fails at the call of a kind and number, as `CALL;NUMBER`, and is asked nothing where the
 /// calls are those of the folder.
-fn in_memory(
-    rt: &HostRuntime,
+fn in_memory<R: Files<File = File> + AllocGlobal + Copy>(
+    rt: &R,
     out: &mut String,
     failing: &str,
     calls: &str,
 ) -> Result<(), NoMemory> {
-    let (name, nth) = failing.split_once(';').unwrap_or(("", ""));
     let fail = Fail {
-        op: op_of(name),
-        nth: nth.parse::<u64>().unwrap_or(0),
+        op: op_of(piece(failing, 0)),
+        nth: number(failing, 1),
     };
     let mut shelf = MemoryShelf::new(rt.alloc(), vec![in rt.alloc(); fail]?)?;
     all_steps(rt, out, &mut shelf, calls)
 }
 
-fn in_folder(
-    rt: &HostRuntime,
+fn in_folder<R: Files<File = File> + AllocGlobal + Copy>(
+    rt: &R,
     out: &mut String,
     folder: &str,
     calls: &str,
 ) -> Result<(), NoMemory> {
-    match FileShelf::at(rt.alloc(), *rt, folder) {
+    match open(rt, folder) {
         Ok(mut shelf) => all_steps(rt, out, &mut shelf, calls),
         Err(_) => Ok(()),
     }
 }
 
-pub fn answer(rt: &HostRuntime, out: &mut String, row: &str) -> Result<(), NoMemory> {
+pub fn answer<R: Files<File = File> + AllocGlobal + Copy>(
+    rt: &R,
+    out: &mut String,
+    row: &str,
+) -> Result<(), NoMemory> {
     let (kind, rest) = row.split_once(' ').unwrap_or((row, ""));
     let (word, calls) = rest.split_once('|').unwrap_or((rest, ""));
     match kind {
         "folder" => in_folder(rt, out, word, calls),
-        "events" => events(rt, out, word, calls),
-        "opens" => opens(rt, out, word),
+        "events" => events(rt.alloc(), out, word, calls),
+        "opens" => opens(rt.alloc(), out, word),
         _ => in_memory(rt, out, word, calls),
     }
 }

@@ -1,17 +1,17 @@
-//! Calls of either store.
-use crate::words::piece;
+//! Calls of either store, as `CALL;ARGUMENT;ARGUMENT..`.
+use crate::words::{number, piece};
 use hv_base::{NoMemory, TableId, Text};
 use hv_shelf::{DirAt, Place, Shelf};
 use std::alloc::Global;
 use std::str;
 
-/// Says whether something is so.
-pub fn say(out: &mut String, so: bool) -> Result<(), NoMemory> {
-    Ok(write!(out, "{so} ")?)
+fn say_word(out: &mut String, word: &str) -> Result<(), NoMemory> {
+    Ok(out.push_str(word)?)
 }
 
-fn say_word(out: &mut String, word: &str) -> Result<(), NoMemory> {
-    Ok(write!(out, "{word} ")?)
+/// Says whether something is so.
+pub fn say(out: &mut String, so: bool) -> Result<(), NoMemory> {
+    say_word(out, if so { "true " } else { "false " })
 }
 
 /// Says what was read.
@@ -20,7 +20,7 @@ fn say_bytes(out: &mut String, bytes: &[u8]) -> Result<(), NoMemory> {
 }
 
 /// Writes where the journal reaches.
-pub fn writes(shelf: &mut impl Shelf, at: u64, text: &str) -> bool {
+fn writes(shelf: &mut impl Shelf, at: u64, text: &str) -> bool {
     match shelf.journal_len() {
         Ok(length) => at <= length && shelf.journal_write(at, text.as_bytes()).is_ok(),
         Err(_) => false,
@@ -28,31 +28,31 @@ pub fn writes(shelf: &mut impl Shelf, at: u64, text: &str) -> bool {
 }
 
 /// The number of the journal's bytes.
-pub fn journal_length<D: Shelf>(out: &mut String, shelf: &mut D) -> Result<(), NoMemory> {
+fn journal_length<D: Shelf>(out: &mut String, shelf: &mut D) -> Result<(), NoMemory> {
     match shelf.journal_len() {
         Ok(length) => Ok(write!(out, "{length} ")?),
-        Err(_) => say_word(out, "failed"),
+        Err(_) => say_word(out, "failed "),
     }
 }
 
 /// What a read of four bytes gives from a place on.
-pub fn read<D: Shelf>(out: &mut String, shelf: &mut D, at: u64) -> Result<(), NoMemory> {
+fn read<D: Shelf>(out: &mut String, shelf: &mut D, at: u64) -> Result<(), NoMemory> {
     let mut bytes = [0; 4];
     match shelf.journal_read(at, &mut bytes) {
         Ok(count) => say_bytes(out, bytes.get(..count).unwrap_or(&[])),
-        Err(_) => say_word(out, "failed"),
+        Err(_) => say_word(out, "failed "),
     }
 }
 
 /// How many calls have failed, and how many for good.
-pub fn counts<D: Shelf>(out: &mut String, shelf: &mut D) -> Result<(), NoMemory> {
+fn counts<D: Shelf>(out: &mut String, shelf: &mut D) -> Result<(), NoMemory> {
     Ok(write!(out, "{} {} ", shelf.fault_count(), shelf.hard_count())?)
 }
 
 /// The places of a table's files.
-pub fn list<D: Shelf>(alloc: Global, out: &mut String, shelf: &mut D) -> Result<(), NoMemory> {
+fn list<D: Shelf>(alloc: Global, out: &mut String, shelf: &mut D) -> Result<(), NoMemory> {
     let Ok(places) = shelf.list(alloc, TableId(1)) else {
-        return say_word(out, "failed");
+        return say_word(out, "failed ");
     };
     for place in &places {
         let Place {
@@ -63,26 +63,13 @@ pub fn list<D: Shelf>(alloc: Global, out: &mut String, shelf: &mut D) -> Result<
         } = place;
         write!(out, "{partition};{dir};{bucket} ")?;
     }
-    say_word(out, "are all")
-}
-
-fn get<D: Shelf>(
-    alloc: Global,
-    out: &mut String,
-    shelf: &mut D,
-    place: &Place,
-) -> Result<(), NoMemory> {
-    match shelf.get(alloc, place) {
-        Ok(Some(bytes)) => say_bytes(out, &bytes),
-        Ok(None) => say_word(out, "none"),
-        Err(_) => say_word(out, "failed"),
-    }
+    say_word(out, "are all ")
 }
 
 /// The directory `PARTITION;DIRECTORY`.
-fn dir_of(alloc: Global, words: &[&str]) -> Result<DirAt, NoMemory> {
-    let partition = Text::of(alloc, piece(words, 1))?;
-    let dir = Text::of(alloc, piece(words, 2))?;
+fn dir_of(alloc: Global, call: &str) -> Result<DirAt, NoMemory> {
+    let partition = Text::of(alloc, piece(call, 1))?;
+    let dir = Text::of(alloc, piece(call, 2))?;
     Ok(DirAt {
         table: TableId(1),
         partition,
@@ -90,41 +77,82 @@ fn dir_of(alloc: Global, words: &[&str]) -> Result<DirAt, NoMemory> {
     })
 }
 
-/// A call at `PARTITION;DIRECTORY;BUCKET`.
-pub fn file<D: Shelf>(
-    alloc: Global,
-    out: &mut String,
-    shelf: &mut D,
-    words: &[&str],
-) -> Result<(), NoMemory> {
+/// The file `PARTITION;DIRECTORY;BUCKET`.
+fn place_of(alloc: Global, call: &str) -> Result<Place, NoMemory> {
+    let bucket = piece(call, 3).parse::<u32>().unwrap_or(0);
     let DirAt {
         table,
         partition,
         dir,
-    } = dir_of(alloc, words)?;
-    let place = Place {
+    } = dir_of(alloc, call)?;
+    Ok(Place {
         table,
         partition,
         dir,
-        bucket: piece(words, 3).parse::<u32>().unwrap_or(0),
-    };
-    if piece(words, 0) == "put" {
-        return say(out, shelf.put(&place, piece(words, 4).as_bytes()).is_ok());
-    }
-    get(alloc, out, shelf, &place)
+        bucket,
+    })
 }
 
-/// A call at `PARTITION;DIRECTORY`, with the name that a directory gets.
-pub fn dir<D: Shelf>(
+/// The bytes of a file.
+fn get<D: Shelf>(
     alloc: Global,
     out: &mut String,
     shelf: &mut D,
-    words: &[&str],
+    call: &str,
 ) -> Result<(), NoMemory> {
-    let dir = dir_of(alloc, words)?;
-    if piece(words, 0) == "remove" {
-        return say(out, shelf.remove(&dir).is_ok());
+    let place = place_of(alloc, call)?;
+    match shelf.get(alloc, &place) {
+        Ok(Some(bytes)) => say_bytes(out, &bytes),
+        Ok(None) => say_word(out, "none "),
+        Err(_) => say_word(out, "failed "),
     }
-    let to = Text::of(alloc, piece(words, 3))?;
-    say(out, shelf.rename(&dir, &to).is_ok())
+}
+
+/// Whether a text, the word behind the file, is put there.
+fn puts<D: Shelf>(alloc: Global, shelf: &mut D, call: &str) -> Result<bool, NoMemory> {
+    let place = place_of(alloc, call)?;
+    Ok(shelf.put(&place, piece(call, 4).as_bytes()).is_ok())
+}
+
+/// Whether a directory gets the name that is the word behind it.
+fn renames<D: Shelf>(alloc: Global, shelf: &mut D, call: &str) -> Result<bool, NoMemory> {
+    let to = Text::of(alloc, piece(call, 3))?;
+    let dir = dir_of(alloc, call)?;
+    Ok(shelf.rename(&dir, &to).is_ok())
+}
+
+fn removes<D: Shelf>(alloc: Global, shelf: &mut D, call: &str) -> Result<bool, NoMemory> {
+    let dir = dir_of(alloc, call)?;
+    Ok(shelf.remove(&dir).is_ok())
+}
+
+/// Whether a call that changes something is done.
+pub fn is_done<D: Shelf>(alloc: Global, shelf: &mut D, call: &str) -> Result<bool, NoMemory> {
+    match piece(call, 0) {
+        "put" => puts(alloc, shelf, call),
+        "rename" => renames(alloc, shelf, call),
+        "remove" => removes(alloc, shelf, call),
+        "sync" => Ok(shelf.journal_sync().is_ok()),
+        _ => Ok(writes(shelf, number(call, 1), piece(call, 2))),
+    }
+}
+
+/// Says what a call answers.
+pub fn step<D: Shelf>(
+    alloc: Global,
+    out: &mut String,
+    shelf: &mut D,
+    call: &str,
+) -> Result<(), NoMemory> {
+    match piece(call, 0) {
+        "get" => get(alloc, out, shelf, call),
+        "list" => list(alloc, out, shelf),
+        "length" => journal_length(out, shelf),
+        "read" => read(out, shelf, number(call, 1)),
+        "counts" => counts(out, shelf),
+        _ => {
+            let done = is_done(alloc, shelf, call)?;
+            say(out, done)
+        }
+    }
 }

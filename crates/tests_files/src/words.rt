@@ -1,11 +1,15 @@
-/// The word at that place, or nothing.
-pub fn piece<'a>(words: &[&'a str], at: usize) -> &'a str {
-    match words.get(at) {
-        Some(word) => *word,
-        None => "",
+/// The word at that place between semicolons, or nothing.
+pub fn piece(call: &str, at: usize) -> &str {
+    let mut left = at;
+    for word in call.split(';') {
+        if left == 0 {
+            return word;
+        }
+        left -= 1;
     }
+    ""
 }
 
-pub fn number(words: &[&str], at: usize) -> u64 {
-    piece(words, at).parse::<u64>().unwrap_or(0)
+pub fn number(call: &str, at: usize) -> u64 {
+    piece(call, at).parse::<u64>().unwrap_or(0)
 }

@@ -1,8 +1,8 @@
 //! Files with what was counted of them, and what commits say.
 use crate::words::{number, piece};
 use hv_base::{NoMemory, TableId, Text};
-use hv_choosing::list_files;
-use hv_counts::{Counted, Due, first_miscount};
+use hv_choosing::{DirFile, list_files};
+use hv_counts::{Counted, Due, Miscount, first_miscount};
 use hv_shelf::Place;
 use std::alloc::Global;
 
@@ -61,6 +61,33 @@ fn case_of(alloc: Global, words: &[&str]) -> Result<Case, NoMemory> {
     Ok(case)
 }
 
+fn say_told(out: &mut String, told: &Miscount) -> Result<(), NoMemory> {
+    let Place {
+        partition,
+        dir,
+        bucket,
+        ..
+    } = &told.place;
+    Ok(write!(out, "{partition} {dir} {bucket} at {}", told.at)?)
+}
+
+fn say_count(
+    alloc: Global,
+    out: &mut String,
+    deletes: bool,
+    files: &[DirFile],
+    counts: &[Counted],
+    dues: &[Due],
+) -> Result<(), NoMemory> {
+    if counts.len() != files.len() {
+        return Ok(out.push_str("a directory without a name")?);
+    }
+    match first_miscount(alloc, deletes, TableId(1), files, counts, dues)? {
+        Some(told) => say_told(out, &told),
+        None => Ok(out.push_str("counted")?),
+    }
+}
+
 /// The first miscount of `inserts` or `deletes`, with what commits say, `due WRITE PARTITION INSERTED DELETED`, and the
 /// files that were read, `file PARTITION DIRECTORY BUCKET ROWS BYTES`, in any order.
 pub fn count(alloc: Global, out: &mut String, words: &[&str]) -> Result<(), NoMemory> {
@@ -70,21 +97,6 @@ pub fn count(alloc: Global, out: &mut String, words: &[&str]) -> Result<(), NoMe
         dues,
     } = case_of(alloc, words)?;
     let files = list_files(alloc, places)?;
-    if counts.as_slice().len() != files.as_slice().len() {
-        return Ok(write!(out, "a directory without a name")?);
-    }
     let deletes = piece(words, 0) == "deletes";
-    let done = match first_miscount(alloc, deletes, TableId(1), &files, &counts, &dues)? {
-        Some(told) => {
-            let Place {
-                partition,
-                dir,
-                bucket,
-                ..
-            } = &told.place;
-            write!(out, "{partition} {dir} {bucket} at {}", told.at)
-        }
-        None => write!(out, "counted"),
-    };
-    Ok(done?)
+    say_count(alloc, out, deletes, &files, &counts, &dues)
 }

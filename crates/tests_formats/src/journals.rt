@@ -21,19 +21,27 @@ fn is_written(alloc: Global, entry: &Entry, body: &[u8]) -> Result<bool, NoMemor
     Ok(record.starts_with(&length) && record.get(4..) == Some(body))
 }
 
-/// The entry that the bytes spell, and whether it is written to them again.
-pub fn entry(alloc: Global, out: &mut String, words: &[&str]) -> Result<(), NoMemory> {
-    let body = spelled(alloc, piece(words, 0))?;
+fn say_entry(alloc: Global, out: &mut String, entry: &Entry, body: &[u8]) -> Result<(), NoMemory>
+    requires { length (entry_spelling entry.now) < 2 ^ 32 }
+{
+    let again = is_written(alloc, entry, body)?;
+    Ok(write!(out, "{again} {entry:?}")?)
+}
+
+fn say_decoded(alloc: Global, out: &mut String, body: &[u8]) -> Result<(), NoMemory> {
     if 1000 < body.len() {
         return Ok(());
     }
-    match decode_entry(alloc, &body) {
-        Ok(entry) => {
-            let again = is_written(alloc, &entry, &body)?;
-            Ok(write!(out, "{again} {entry:?}")?)
-        }
+    match decode_entry(alloc, body) {
+        Ok(entry) => say_entry(alloc, out, &entry, body),
         Err(fault) => Ok(write!(out, "{fault:?}")?),
     }
+}
+
+/// The entry that the bytes spell, and whether it is written to them again.
+pub fn entry(alloc: Global, out: &mut String, words: &[&str]) -> Result<(), NoMemory> {
+    let body = spelled(alloc, piece(words, 0))?;
+    say_decoded(alloc, out, &body)
 }
 
 /// The entries of a journal and the place of its closed gate, or where it is bad.
@@ -70,6 +78,22 @@ fn append_openings(shelf: &mut MemoryShelf, two: bool, buffer: &mut Vec<u8>) -> 
     (done, place)
 }
 
+fn say_appended(
+    alloc: Global,
+    out: &mut String,
+    shelf: &mut MemoryShelf,
+    two: bool,
+) -> Result<(), NoMemory>
+    requires empty { length shelf.old.store.journal ≤ 1 }
+{
+    if open_empty(shelf).is_err() || shelf.journal().len() != 1 {
+        return Ok(());
+    }
+    let mut buffer = Vec::with_capacity(alloc, 64)?;
+    let (done, place) = append_openings(shelf, two, &mut buffer);
+    Ok(write!(out, "{done} {place} {:?}", shelf.journal())?)
+}
+
 /// Appends a Boot, or two at once, to an empty journal whose write or sync of that number fails. Shows whether it was
 /// acknowledged, where the closed gate is said to stand, and the journal.
 pub fn appended(alloc: Global, out: &mut String, words: &[&str]) -> Result<(), NoMemory> {
@@ -79,11 +103,6 @@ pub fn appended(alloc: Global, out: &mut String, words: &[&str]) -> Result<(), N
         Op::JournalSync
     };
     let nth = number(words, 1);
-    let mut buffer = Vec::with_capacity(alloc, 64)?;
     let mut shelf = MemoryShelf::new(alloc, vec![in alloc; Fail { op, nth }]?)?;
-    if open_empty(&mut shelf).is_err() || shelf.journal().len() != 1 {
-        return Ok(());
-    }
-    let (done, place) = append_openings(&mut shelf, piece(words, 2) == "two", &mut buffer);
-    Ok(write!(out, "{done} {place} {:?}", shelf.journal())?)
+    say_appended(alloc, out, &mut shelf, piece(words, 2) == "two")
 }

@@ -12,36 +12,42 @@ mod words;
 use hv_base::NoMemory;
 use std::alloc::Global;
 use std::io;
-use std::io::{BufRead, BufReader};
 
-fn answer(alloc: Global, out: &mut String, row: &str) -> Result<(), NoMemory> {
-    let (call, rest) = row.split_once(' ').unwrap_or((row, ""));
-    let words: Vec<&str> = rest.split('|').collect(alloc)?;
-    match call {
-        "entry" => journals::entry(alloc, out, &words),
-        "records" => journals::records(alloc, out, &words),
-        "append" => journals::appended(alloc, out, &words),
-        "recover" => recovery::recover(alloc, out, &words),
-        "boots" => recovery::boots(alloc, out, &words),
-        "count" => counts::count(alloc, out, &words),
+fn call(alloc: Global, out: &mut String, name: &str, words: &[&str]) -> Result<(), NoMemory> {
+    match name {
+        "entry" => journals::entry(alloc, out, words),
+        "records" => journals::records(alloc, out, words),
+        "append" => journals::appended(alloc, out, words),
+        "recover" => recovery::recover(alloc, out, words),
+        "boots" => recovery::boots(alloc, out, words),
+        "count" => counts::count(alloc, out, words),
         _ => Ok(()),
     }
 }
 
+fn answer(alloc: Global, out: &mut String, row: &str) -> Result<(), NoMemory> {
+    let (name, rest) = row.split_once(' ').unwrap_or((row, ""));
+    let words: Vec<&str> = rest.split('|').collect(alloc)?;
+    call(alloc, out, name, &words)
+}
+
+/// Whether a row is answered as it is to be; one that isn't is printed.
+fn is_so(rt: &HostRuntime, row: &str) -> io::Result<bool> {
+    let (asked, wanted) = row.split_once(" → ").unwrap_or(("", "an answer"));
+    let mut out = String::new(rt.alloc());
+    let so = answer(rt.alloc(), &mut out, asked).is_ok() && out.as_str() == wanted;
+    if !so {
+        println!(rt; "not so: {row}: {out}")?;
+    }
+    Ok(so)
+}
+
 fn main(rt: HostRuntime) -> io::Result<()> {
-    let alloc = rt.alloc();
+    let text = io::read_to_string(rt.alloc(), rt.reader())?;
     let mut right = 0u64;
-    for line in BufReader::new(alloc, rt.reader())?.lines(alloc) {
-        let line = line?;
-        if line.starts_with("#") {
-            continue;
-        }
-        let (asked, wanted) = line.as_str().split_once(" → ").unwrap_or(("", "an answer"));
-        let mut out = String::new(alloc);
-        if answer(alloc, &mut out, asked).is_ok() && out.as_str() == wanted {
+    for row in text.lines() {
+        if !row.starts_with("#") && is_so(&rt, row)? {
             right = right.wrapping_add(1);
-        } else {
-            println!(rt; "not so: {line}: {out}")?;
         }
     }
     println!(rt; "{right} rows are so")

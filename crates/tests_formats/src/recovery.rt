@@ -4,6 +4,24 @@ use hv_recovery::{OpenFault, read_journal};
 use hv_shelf::{MemoryShelf, Shelf};
 use std::alloc::Global;
 
+fn say_whole(out: &mut String, place: u64, entries: usize) -> Result<(), NoMemory> {
+    Ok(write!(out, "{place} {entries}")?)
+}
+
+fn say_fault(out: &mut String, fault: OpenFault) -> Result<(), NoMemory> {
+    match fault {
+        OpenFault::BadJournal { at } => Ok(write!(out, "bad {at}")?),
+        _ => Ok(()),
+    }
+}
+
+fn say_read<D: Shelf>(alloc: Global, out: &mut String, shelf: &mut D) -> Result<(), NoMemory> {
+    match read_journal(alloc, shelf, &Limits::profile()) {
+        Ok((book, place)) => say_whole(out, place, book.entries().len()),
+        Err(fault) => say_fault(out, fault),
+    }
+}
+
 /// What is answered of a store whose journal has these bytes: the place of its closed gate and the number of its entries,
 /// or where it is bad.
 fn answered(alloc: Global, out: &mut String, bytes: &[u8]) -> Result<(), NoMemory> {
@@ -11,12 +29,7 @@ fn answered(alloc: Global, out: &mut String, bytes: &[u8]) -> Result<(), NoMemor
     if shelf.journal_write(0, bytes).is_err() {
         return Ok(());
     }
-    let done = match read_journal(alloc, &mut shelf, &Limits::profile()) {
-        Ok((book, place)) => write!(out, "{place} {}", book.entries().len()),
-        Err(OpenFault::BadJournal { at }) => write!(out, "bad {at}"),
-        Err(_) => Ok(()),
-    };
-    Ok(done?)
+    say_read(alloc, out, &mut shelf)
 }
 
 pub fn recover(alloc: Global, out: &mut String, words: &[&str]) -> Result<(), NoMemory> {

@@ -1,10 +1,16 @@
 -- A statement that is held can be finished later.
-use Rattle.std.proofs.Common.{ℕ, Option, Some, None, Result, Ok, Err}
-use Rattle.std.specs.Prelude.{IfSome, OnOk}
+use Rattle.std.proofs.Common.{ℕ, Option, Some, None, List, Result, Ok, Err, inl, inr}
+use Rattle.std.specs.Prelude.{IfSome, IfOk, IfErr, OnOk}
 use Rattle.hv_shelf.specs.Disk.{Store}
-use Rattle.hv_actor.specs.Acting.{IsLater}
-use Rattle.hv_session.specs.hv_steps.specs.hv_acts.specs.declared.told.ToldHouse.{ToldHouse}
-use Rattle.hv_session.specs.hv_steps.specs.hv_acts.specs.Told.{seen_in}
+use Rattle.hv_history.specs.declared.entry.Entry.{Entry}
+use Rattle.hv_trail.specs.declared.trail.TrailItem.{TrailItem}
+use Rattle.hv_stands.specs.Running.{Asking}
+use Rattle.hv_house.specs.declared.fault.HouseFault.{HouseFault}
+use Rattle.hv_actor.specs.Acting.{IsLater, among, known}
+use Rattle.hv_session.specs.hv_steps.specs.hv_table_reader.specs.hv_acts.specs.declared.told.ToldHouse.{ToldHouse}
+use Rattle.hv_session.specs.hv_steps.specs.hv_table_reader.specs.hv_acts.specs.Told.{seen_in}
+use Rattle.hv_session.specs.hv_steps.specs.Going.{GainsSome}
+use Rattle.hv_session.specs.hv_steps.specs.Phases.{HaltsBeginning}
 use Rattle.hv_session.specs.declared.paused.Paused.{Paused}
 use Rattle.hv_session.specs.declared.paused.Taken.{Taken}
 use Rattle.hv_session.specs.declared.paused.Taken.TheVariants as taken
@@ -19,9 +25,19 @@ HeldLasts {D = D} told faults =
 -- what is held behind a statement that was taken up can be finished
 pub behind : {D : Type 0} (told : D → Option Store) (faults : D → ℕ) (lasts : HeldLasts told faults) (before now : ToldHouse D) (answer : Taken) (held : Option Paused)
     → IsLater faults (seen_in before) (seen_in now) → CanFinishTaken told now answer → IfSome held (CanFinish told before) → IfSome (held_behind answer held) (CanFinish told now)
-behind told faults lasts before now (taken.Ended found) None later fresh can = tt
-behind told faults lasts before now (taken.Ended found) (Some paused) later fresh can = lasts before now paused later can
+behind told faults lasts before now (taken.Replied reply) None later fresh can = tt
+behind told faults lasts before now (taken.Replied reply) (Some paused) later fresh can = lasts before now paused later can
 behind told faults lasts before now (taken.Kept paused) held later fresh can = fresh
+
+-- the house goes on behind a statement that was taken up, also where the run stops
+pub went-on : {D : Type 0} (told : D → Option Store) (faults : D → ℕ) (between : List TrailItem → Type 0) (meanwhile : ToldHouse D → ToldHouse D → Type 0)
+    (asking : Asking) (low : ℕ) (own own' : List ℕ) (before now : ToldHouse D) (Is : Taken → List Entry → Type 0) (result : Result Taken HouseFault)
+    → IfOk result (λ answer. GainsSome faults between low (known own before) (known own' now) (Is answer))
+    → IfErr result (HaltsBeginning (among told faults between meanwhile) asking (known own before) (known own' now)) → IsLater faults (seen_in before) (seen_in now)
+went-on told faults between meanwhile asking low own own' before now Is (Ok answer) gains halts = gains.1.adds.later
+went-on told faults between meanwhile asking low own own' before now Is (Err why) gains (inl halts) = halts.2.stop.adds.later
+went-on told faults between meanwhile asking low own own' before now Is (Err why) gains (inr (inl shut)) = (shut.1 0).later
+went-on told faults between meanwhile asking low own own' before now Is (Err why) gains (inr (inr shut)) = (shut.1 0).later
 
 -- what holds anyway
 pub anyway : {T E : Type 0} (P : Type 0) (result : Result T E) → P → OnOk result P

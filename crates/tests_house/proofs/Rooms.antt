@@ -1,6 +1,6 @@
 -- What the calls ask for that note an entry by its name.
-use Rattle.std.proofs.Common.{◌≡◌, ℕ, ◌+◌, ◌≤◌, Option, Some, None, List, length, Result, Ok, Err, sym, subst}
-use Rattle.std.specs.Prelude.{IsTrue, IsSomeAnd, IfOk, OnOk}
+use Rattle.std.proofs.Common.{◌≡◌, ℕ, ◌+◌, ◌≤◌, Option, Some, None, Bool, true, false, List, length, Result, Ok, Err, sym, ◌∙◌, subst}
+use Rattle.std.specs.Prelude.{◌↔◌, IsTrue, IsSomeAnd, IfOk, OnOk}
 use Rattle.std.specs.Option.{option_map}
 use Rattle.hv_base.specs.declared.ids.Limits.{Limits}
 use Rattle.hv_shelf.specs.Disk.{Store}
@@ -8,7 +8,7 @@ use Rattle.hv_history.specs.declared.entry.Entry.{Entry}
 use Rattle.hv_history.specs.declared.state.Table.{Table}
 use Rattle.hv_history.specs.declared.state.Transaction.{Transaction}
 use Rattle.hv_history.specs.State.{State, state_of, numbered}
-use Rattle.hv_history.specs.Legal.{is_open, Of, StartFits, GivenFits, CreateFits}
+use Rattle.hv_history.specs.Legal.{is_open, Of, StartFits, GivenFits, CreateFits, DropFits}
 use Rattle.hv_book.specs.declared.notes.TransactionNote.{TransactionNote}
 use Rattle.hv_book.specs.Briefs.{brief}
 use Rattle.hv_house.specs.declared.house.House.{House}
@@ -17,8 +17,8 @@ use Rattle.hv_house.specs.declared.calls.EntryFault.{EntryFault}
 use Rattle.hv_house.specs.declared.calls.EntryFault.TheVariants as fault
 use Rattle.hv_house.specs.Calls.{CanBeGiven, CanStart, IfOpen, StaysOpenWithin}
 use Rattle.hv_trail.specs.Kept.{trail_of}
-use Rattle.hv_session.specs.hv_steps.specs.hv_acts.specs.Reading.{HasPlace}
-use Rattle.hv_session.specs.hv_steps.specs.hv_acts.proofs.Steps.{book-is}
+use Rattle.hv_session.specs.hv_steps.specs.hv_table_reader.specs.hv_acts.specs.Reading.{HasPlace}
+use Rattle.hv_session.specs.hv_steps.specs.hv_table_reader.specs.hv_acts.proofs.Steps.{book-is}
 use Rattle.tests_house.specs.Asking.{IsOpen, StaysOpen, IsRefusal}
 
 of_open : (P : Transaction → Type 0) (o : Option Transaction) → IsSomeAnd o P → IsSomeAnd o (λ t. IsTrue (is_open t) → P t)
@@ -58,6 +58,23 @@ pub can_create : (b book : List Entry) (txn count : ℕ) → b ≡ book → coun
     → IfOpen (state_of book) txn (CreateFits (state_of book) (length (state_of book).tables + 1))
 can_create b book txn count same is fits =
     if_open (λ s. CreateFits s (length s.tables + 1)) b book txn same (subst (λ (n : ℕ). Of (state_of b) txn (CreateFits (state_of b) (n + 1))) is fits)
+
+pub can_drop : (b book : List Entry) (txn table : ℕ) → b ≡ book → Of (state_of b) txn (DropFits (state_of b) table)
+    → IfOpen (state_of book) txn (DropFits (state_of book) table)
+can_drop b book txn table same fits = if_open (λ s. DropFits s table) b book txn same fits
+
+-- of one that is there and has ended nothing is asked
+ended_may : (P : Transaction → Type 0) (note : TransactionNote) (o : Option Transaction) (unended : Bool) → Some note ≡ option_map brief o
+    → (IsTrue unended ↔ IsSomeAnd o (λ t. IsTrue (is_open t))) → unended ≡ false → IsSomeAnd o (λ t. IsTrue (is_open t) → P t)
+ended_may P note None unended is known ended = cc
+ended_may P note (Some t) unended is known ended = λ running. absurd (let wrong : false ≡ true = sym ended ∙ known.1 running in cc)
+
+pub can_drop_late : (b book : List Entry) (txn table : ℕ) (note : TransactionNote) (unended : Bool) → b ≡ book
+    → Some note ≡ option_map brief (numbered (state_of b).transactions txn) → (IsTrue unended ↔ Of (state_of b) txn (λ t. IsTrue (is_open t)))
+    → unended ≡ false → IfOpen (state_of book) txn (DropFits (state_of book) table)
+can_drop_late b book txn table note unended same is known ended =
+    subst (λ (e : List Entry). IfOpen (state_of e) txn (DropFits (state_of e) table)) same
+    (ended_may (DropFits (state_of b) table) note (numbered (state_of b).transactions txn) unended is known ended)
 
 -- one that is there may be aborted, where it is open
 noted : (note : TransactionNote) (o : Option Transaction) → Some note ≡ option_map brief o → IsSomeAnd o (λ t. IsTrue (is_open t) → IsTrue (is_open t))

@@ -1,18 +1,18 @@
 //! A statement of one's own, over whoever acts on the house.
 ghost use Rattle.std.specs.Prelude.{◌≡◌, IfSome, IfOk, OnOk};
 ghost use Rattle.hv_actor.specs.Acting.{IsLater};
-ghost use Rattle.hv_session.specs.hv_steps.specs.hv_acts.specs.Told.{seen_in};
-ghost use Rattle.hv_session.specs.hv_steps.specs.hv_acts.specs.Going.{IsOpenHouse};
+ghost use Rattle.hv_session.specs.hv_steps.specs.hv_table_reader.specs.hv_acts.specs.Told.{seen_in};
+ghost use Rattle.hv_session.specs.hv_steps.specs.hv_table_reader.specs.hv_acts.specs.Going.{IsOpenHouse};
 ghost use Rattle.hv_session.specs.Doing.{IsHold, CanFinish, CanFinishTaken};
 ghost use Rattle.tests_house.specs.Keeping.{held_behind, CanTakeUp, CanGoOn};
 
-use crate::desk::{Desk, say_done};
+use crate::desk::{Desk, say_reply};
 use crate::words::{cut, say};
 use hv_actor::Actor;
 use hv_base::{Stage, Text};
 use hv_house::HouseFault;
-use hv_session::hv_steps::Done;
-use hv_session::hv_steps::hv_acts::ToldHouse;
+use hv_session::hv_steps::Reply;
+use hv_session::hv_steps::hv_table_reader::hv_acts::ToldHouse;
 use hv_session::{Asking, How, Paused, Taken, finish, take_up, what_is_held_can_be_finished};
 use hv_shelf::Shelf;
 use std::alloc::Global;
@@ -77,7 +77,7 @@ fn keep_or_say(alloc: Global, desk: &mut Desk, taken: Taken, said: &mut String) 
     ensures held { desk.new.held ≡ held_behind taken desk.old.held }
 {
     match taken {
-        Taken::Ended(done) => say_done(alloc, said, &done),
+        Taken::Replied(reply) => say_reply(alloc, said, &reply),
         Taken::Kept(paused) => {
             let _last = ManuallyDrop::new(desk.held.replace(paused));
             say(said, "held")
@@ -107,7 +107,7 @@ fn finish_one<D: Shelf + Drop, W: Actor<D, ToldHouse<D>>>(
     alloc: Global,
     actor: &mut W,
     paused: Paused,
-) -> Result<Done, HouseFault>
+) -> Result<Reply, HouseFault>
     requires keeps { W.keeps actor.old }
     requires running { IsOpenHouse (W.house actor.old) }
     requires can { CanFinish D.told (W.house actor.old) paused }
@@ -156,7 +156,7 @@ fn finish_held<D: Shelf + Drop, W: Actor<D, ToldHouse<D>>>(
 {
     match desk.held.take() {
         Some(paused) => match finish_one(alloc, actor, paused) {
-            Ok(done) => say_done(alloc, said, &done),
+            Ok(reply) => say_reply(alloc, said, &reply),
             Err(_) => Err(ErrorKind::Other.into()),
         },
         None => say(said, "none is held"),

@@ -10,7 +10,7 @@ use hv_fits::start_fits;
 use hv_history::{Cause, Entry};
 use hv_house::{EntryFault, House, HouseFault};
 use hv_locks::LockState;
-use hv_meta::{create_fits, given_fits, note_of};
+use hv_meta::{create_fits, drop_fits, given_fits, is_unended, note_of};
 use hv_reading::read_statement;
 use hv_shelf::Shelf;
 use std::alloc::Global;
@@ -176,6 +176,42 @@ pub(crate) fn create<D: Shelf>(house: &mut House<D>, txn: TxnId) -> Result<Said,
     }
     match house.create(txn) {
         Ok(table) => Ok(Said::Of("table ", table.0)),
+        Err(why) => refusal(why),
+    }
+}
+
+/// Drops a table where that fits, of a transaction that is open.
+fn drop_open<D: Shelf>(house: &mut House<D>, txn: TxnId, table: TableId) -> Result<Said, HouseFault>
+    requires ready { IsOpen D.told house.old }
+    ensures ready { IfOk result (λ _. StaysOpen D.told house.old house.new) }
+{
+    if !drop_fits(house.book(), txn, table) {
+        return Ok(Said::Refused);
+    }
+    match house.drop_table(txn, table) {
+        Ok(place) => Ok(Said::Of("ended at ", place)),
+        Err(why) => refusal(why),
+    }
+}
+
+/// Drops a table, by which its transaction ends, or is told where it ended.
+pub(crate) fn drop_table<D: Shelf>(
+    house: &mut House<D>,
+    txn: TxnId,
+    table: TableId,
+) -> Result<Said, HouseFault>
+    requires ready { IsOpen D.told house.old }
+    ensures ready { IfOk result (λ _. StaysOpen D.told house.old house.new) }
+{
+    let book = house.book();
+    let Some(_) = note_of(book, txn.0) else {
+        return Ok(Said::Refused);
+    };
+    if is_unended(book, txn) {
+        return drop_open(house, txn, table);
+    }
+    match house.drop_table(txn, table) {
+        Ok(place) => Ok(Said::Of("ended at ", place)),
         Err(why) => refusal(why),
     }
 }

@@ -4,7 +4,7 @@ ghost use Rattle.std.specs.Prelude.{◌≡◌, None};
 use crate::words::{add, add_number, say, say_number};
 use hv_base::Stage;
 use hv_session::Paused;
-use hv_session::hv_steps::{Done, Reply};
+use hv_session::hv_steps::Reply;
 use std::alloc::Global;
 use std::io;
 use std::mem::ManuallyDrop;
@@ -35,7 +35,7 @@ pub(crate) fn leave_desk(desk: Desk) {
 }
 
 /// A reply, and where the statement ended.
-fn say_reply(alloc: Global, said: &mut String, reply: &Reply) -> io::Result<()> {
+pub(crate) fn say_reply(alloc: Global, said: &mut String, reply: &Reply) -> io::Result<()> {
     add(
         said,
         str::from_utf8(reply.text.as_slice()).unwrap_or("no text\n"),
@@ -43,14 +43,6 @@ fn say_reply(alloc: Global, said: &mut String, reply: &Reply) -> io::Result<()> 
     match reply.ended {
         Some(at) => say_number(alloc, said, "ended at ", at),
         None => say(said, "never opened"),
-    }
-}
-
-/// How a statement ended, and where.
-pub(crate) fn say_done(alloc: Global, said: &mut String, done: &Done) -> io::Result<()> {
-    match done {
-        Done::Replied(reply) => say_reply(alloc, said, reply),
-        Done::Gone { at } => say_number(alloc, said, "gone at ", *at),
     }
 }
 

@@ -2,16 +2,19 @@
 //! left to the end of the program.
 ghost use Rattle.std.specs.Prelude.{◌≡◌, true, IfOk};
 ghost use Rattle.hv_trail.specs.Kept.{trail_of};
-ghost use Rattle.hv_session.specs.hv_steps.specs.hv_acts.specs.hv_telling.specs.Telling.{IsWhole};
-ghost use Rattle.hv_session.specs.hv_steps.specs.hv_acts.specs.Told.{IsWholeOrClosed, trail_in};
-ghost use Rattle.hv_session.specs.hv_steps.specs.hv_acts.specs.Going.{IsOpenHouse};
-ghost use Rattle.hv_session.specs.hv_steps.specs.hv_acts.specs.Reading.{HasPlace};
+ghost use Rattle.hv_session.specs.hv_steps.specs.hv_table_reader.specs.hv_acts.specs.hv_telling.specs.Telling.{IsWhole};
+ghost use Rattle.hv_house.specs.Housed.{ShutsHard};
+ghost use Rattle.hv_house.specs.Steps.{seen_of};
+ghost use Rattle.hv_session.specs.hv_steps.specs.hv_table_reader.specs.hv_acts.specs.Told.{trail_in};
+ghost use Rattle.hv_session.specs.hv_steps.specs.hv_table_reader.specs.hv_acts.specs.Going.{IsOpenHouse};
+ghost use Rattle.hv_session.specs.hv_steps.specs.hv_table_reader.specs.hv_acts.specs.Reading.{HasPlace};
 ghost use Rattle.tests_house.specs.Asking.{IsOpen};
+ghost use Rattle.tests_house.specs.Keeping.{IsAsKept};
 
 use hv_base::Limits;
 use hv_house::{BootFault, House};
-use hv_session::hv_steps::hv_acts::ToldHouse;
-use hv_session::hv_steps::hv_acts::hv_telling::opened_is_whole;
+use hv_session::hv_steps::hv_table_reader::hv_acts::ToldHouse;
+use hv_session::hv_steps::hv_table_reader::hv_acts::hv_telling::opened_is_whole;
 use hv_shelf::Shelf;
 use std::alloc::Global;
 use std::io;
@@ -49,6 +52,7 @@ pub(crate) fn boot<D: Shelf + Drop>(
 /// Opens a store to a house that is as acts keep it.
 fn opened_whole<D: Shelf + Drop>(alloc: Global, store: D) -> io::Result<House<D>>
     ensures whole { IfOk result (IsWhole D.told) }
+    ensures hard { IfOk result (λ house. ShutsHard D.hard (seen_of house)) }
 {
     opened_is_whole::<D>();
     match House::boot(alloc, store, LIMITS) {
@@ -71,7 +75,8 @@ fn has_place<D: Shelf>(house: &House<D>, place: u64) -> bool
 /// A house for those who act on it, whose book has this place.
 fn told_at<D: Shelf + Drop>(house: House<D>, place: u64) -> io::Result<ToldHouse<D>>
     requires whole { IsWhole D.told house }
-    ensures keeps { IfOk result (λ told. IsWholeOrClosed D.told told.house) }
+    requires hard { ShutsHard D.hard (seen_of house) }
+    ensures keeps { IfOk result (IsAsKept D.told D.hard) }
     ensures running { IfOk result IsOpenHouse }
     ensures place { IfOk result (λ told. HasPlace (trail_in told) place) }
 {
@@ -89,7 +94,7 @@ pub(crate) fn open_told<D: Shelf + Drop>(
     store: D,
     place: u64,
 ) -> io::Result<ToldHouse<D>>
-    ensures keeps { IfOk result (λ told. IsWholeOrClosed D.told told.house) }
+    ensures keeps { IfOk result (IsAsKept D.told D.hard) }
     ensures running { IfOk result IsOpenHouse }
     ensures place { IfOk result (λ told. HasPlace (trail_in told) place) }
 {

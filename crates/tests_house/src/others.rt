@@ -1,17 +1,18 @@
 //! Others, who do what they were told to do when.
 ghost use Rattle.std.specs.Prelude.{◌≡◌, false};
 ghost use Rattle.hv_actor.specs.Acting.{IsLater};
-ghost use Rattle.hv_session.specs.hv_steps.specs.hv_acts.specs.Told.{IsWholeOrClosed, seen_in};
-ghost use Rattle.hv_session.specs.hv_steps.specs.hv_acts.specs.Going.{IsOpenHouse};
+ghost use Rattle.hv_session.specs.hv_steps.specs.hv_table_reader.specs.hv_acts.specs.Told.{seen_in};
+ghost use Rattle.hv_session.specs.hv_steps.specs.hv_table_reader.specs.hv_acts.specs.Going.{IsOpenHouse};
+ghost use Rattle.tests_house.specs.Keeping.{IsAsKept};
 
 use crate::acting::{asking, take_one};
-use crate::desk::say_done;
+use crate::desk::say_reply;
 use crate::words::{cut, number, say, say_number};
 use hv_actor::{Actor, Others};
 use hv_base::TxnId;
 use hv_history::Cause;
 use hv_session::Taken;
-use hv_session::hv_steps::hv_acts::{AbortFor, ActFault, ToldHouse};
+use hv_session::hv_steps::hv_table_reader::hv_acts::{AbortFor, ActFault, ToldHouse};
 use hv_shelf::Shelf;
 use std::alloc::Global;
 use std::io;
@@ -34,16 +35,16 @@ fn take<D: Shelf + Drop>(
     text: &str,
     said: &mut String,
 ) -> io::Result<()>
-    requires keeps { IsWholeOrClosed D.told house.old.house }
+    requires keeps { IsAsKept D.told D.hard house.old }
     requires running { IsOpenHouse house.old }
-    ensures keeps { IsWholeOrClosed D.told house.new.house }
+    ensures keeps { IsAsKept D.told D.hard house.new }
     ensures later { IsLater D.faults (seen_in house.old) (seen_in house.new) }
 {
     let Some(asking) = asking(alloc, session, text, None) else {
         return say(said, "not asked");
     };
     match take_one(alloc, house, asking) {
-        Ok(Taken::Ended(done)) => say_done(alloc, said, &done),
+        Ok(Taken::Replied(reply)) => say_reply(alloc, said, &reply),
         Ok(Taken::Kept(paused)) => {
             let _left = ManuallyDrop::new(paused);
             say(said, "held")
@@ -58,8 +59,8 @@ fn abort_now<D: Shelf + Drop>(
     house: &mut ToldHouse<D>,
     txn: TxnId,
 ) -> Result<u64, ActFault>
-    requires keeps { IsWholeOrClosed D.told house.old.house }
-    ensures keeps { IsWholeOrClosed D.told house.new.house }
+    requires keeps { IsAsKept D.told D.hard house.old }
+    ensures keeps { IsAsKept D.told D.hard house.new }
     ensures later { IsLater D.faults (seen_in house.old) (seen_in house.new) }
 {
     let cause = Cause::Memory;
@@ -73,8 +74,8 @@ fn abort<D: Shelf + Drop>(
     txn: TxnId,
     said: &mut String,
 ) -> io::Result<()>
-    requires keeps { IsWholeOrClosed D.told house.old.house }
-    ensures keeps { IsWholeOrClosed D.told house.new.house }
+    requires keeps { IsAsKept D.told D.hard house.old }
+    ensures keeps { IsAsKept D.told D.hard house.new }
     ensures later { IsLater D.faults (seen_in house.old) (seen_in house.new) }
 {
     match abort_now(alloc, house, txn) {
@@ -90,8 +91,8 @@ fn do_move<D: Shelf + Drop>(
     deed: &str,
     said: &mut String,
 ) -> io::Result<()>
-    requires keeps { IsWholeOrClosed D.told house.old.house }
-    ensures keeps { IsWholeOrClosed D.told house.new.house }
+    requires keeps { IsAsKept D.told D.hard house.old }
+    ensures keeps { IsAsKept D.told D.hard house.new }
     ensures later { IsLater D.faults (seen_in house.old) (seen_in house.new) }
 {
     if house.is_closed() {
@@ -113,8 +114,8 @@ fn come<D: Shelf + Drop>(
     at: u64,
     said: &mut String,
 ) -> bool
-    requires keeps { IsWholeOrClosed D.told house.old.house }
-    ensures keeps { IsWholeOrClosed D.told house.new.house }
+    requires keeps { IsAsKept D.told D.hard house.old }
+    ensures keeps { IsAsKept D.told D.hard house.new }
     ensures later { IsLater D.faults (seen_in house.old) (seen_in house.new) }
 {
     let mut lacks = false;

@@ -2,7 +2,7 @@
 ghost use Rattle.std.specs.Prelude.{IfOk, OnOk};
 ghost use Rattle.tests_house.specs.Asking.{told_memory, IsOpen, StaysOpen};
 
-use crate::calls::{Said, abort, abort_full, add_said, create, give, start, statement};
+use crate::calls::{Said, abort, abort_full, add_said, create, drop_table, give, start, statement};
 use crate::changes::change;
 use crate::ending::commit_idle;
 use crate::house::{LIMITS, boot, leave};
@@ -45,6 +45,7 @@ fn call<D: Shelf>(
         "abort" => abort(house, txn),
         "full" => abort_full(house, txn),
         "create" => create(house, txn),
+        "drop" => drop_table(house, txn, TableId(number(more))),
         _ => Ok(Said::Refused),
     }
 }

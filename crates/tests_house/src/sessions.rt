@@ -8,7 +8,7 @@ use crate::house::{close, open_told};
 use crate::others::Scripted;
 use crate::words::{add, add_number, cut, number, say};
 use hv_actor::Crowd;
-use hv_session::hv_steps::hv_acts::ToldHouse;
+use hv_session::hv_steps::hv_table_reader::hv_acts::ToldHouse;
 use hv_shelf::Shelf;
 use std::alloc::Global;
 use std::io;
@@ -59,8 +59,8 @@ fn among<D: Shelf + Drop>(
     rest: &str,
     said: &mut String,
 ) -> io::Result<ToldHouse<D>>
-    requires ready { IsAtHand D.told desk.old house }
-    ensures ready { IfOk result (IsAtHand D.told desk.new) }
+    requires ready { IsAtHand D.told D.hard desk.old house }
+    ensures ready { IfOk result (IsAtHand D.told D.hard desk.new) }
 {
     let (places, order) = cut(rest, ' ');
     let others = Scripted {
@@ -90,8 +90,8 @@ fn line_alone<D: Shelf + Drop>(
     rest: &str,
     said: &mut String,
 ) -> io::Result<()>
-    requires ready { IsAtHand D.told desk.old house.old }
-    ensures ready { OnOk result (IsAtHand D.told desk.new house.new) }
+    requires ready { IsAtHand D.told D.hard desk.old house.old }
+    ensures ready { OnOk result (IsAtHand D.told D.hard desk.new house.new) }
 {
     match word {
         "alone" => do_order(alloc, house, desk, rest, said),
@@ -112,8 +112,8 @@ fn step<D: Shelf + Drop>(
     line: &str,
     said: &mut String,
 ) -> io::Result<ToldHouse<D>>
-    requires ready { IsAtHand D.told desk.old house }
-    ensures ready { IfOk result (IsAtHand D.told desk.new) }
+    requires ready { IsAtHand D.told D.hard desk.old house }
+    ensures ready { IfOk result (IsAtHand D.told D.hard desk.new) }
 {
     let mut house = house;
     let (word, rest) = cut(line, ' ');
@@ -138,8 +138,8 @@ fn told_step<D: Shelf + Drop>(
     line: &str,
     said: &mut String,
 ) -> io::Result<ToldHouse<D>>
-    requires ready { IsAtHand D.told desk.old house }
-    ensures ready { IfOk result (IsAtHand D.told desk.new) }
+    requires ready { IsAtHand D.told D.hard desk.old house }
+    ensures ready { IfOk result (IsAtHand D.told D.hard desk.new) }
 {
     match say(said, line) {
         Ok(()) => step(alloc, house, desk, line, said),

@@ -5,20 +5,12 @@
 #![tactic(auto)]
 
 mod bases;
-mod cells;
-mod dates;
 mod dirs;
 mod ids;
-mod inserts;
-mod language;
 mod merges;
-mod routes;
 mod rowfiles;
-mod scripts;
 mod streams;
-mod texts;
 mod trees;
-mod values;
 mod wids;
 mod words;
 
@@ -38,18 +30,11 @@ fn call(
     match library {
         "base" => bases::answer(alloc, out, call, words),
         "streams" => streams::answer(alloc, out, call, words),
-        "text" => texts::answer(alloc, out, call, words),
         "ids" => ids::answer(alloc, out, call, words),
         "wids" => wids::answer(alloc, out, call, words),
         "dirs" => dirs::answer(alloc, out, call, words),
-        "script" => scripts::answer(alloc, out, call, words),
-        "value" => values::answer(alloc, out, call, words),
-        "dates" => dates::answer(alloc, out, words),
         "rowfile" => rowfiles::answer(alloc, out, call, words),
         "merge" => merges::answer(alloc, out, words),
-        "route" => routes::answer(alloc, out, call, words),
-        "language" => language::answer(alloc, out, call, words),
-        "inserts" => inserts::answer(alloc, out, words),
         _ => Ok(()),
     }
 }

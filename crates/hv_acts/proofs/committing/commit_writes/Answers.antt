@@ -8,6 +8,7 @@ returns-then-not-runs_with g c = record {
   committed =
       commit-not-running g.D.Shelf.told g.D.Shelf.faults c.args.due.txn c.args.due.wrote c.args.due.name c.args.due.put c.late.result c.args.house.now
       c.requires.whole c.late.ensures.late (λ runs. no-true c.runs_with.result c.if-not-runs_with.true (c.runs_with.ensures.runs.1 runs));
+  hard = c.requires.hard;
 }
 
 pub returns-in-Some : goal.returns-in-Some
@@ -15,6 +16,7 @@ returns-in-Some g c = record {
   committed =
       commit-broken g.D.Shelf.told g.D.Shelf.faults c.args.due.txn c.args.due.wrote c.args.due.name c.args.due.put c.in-Some.put c.in-Some.count
       c.args.house.now c.requires.whole (sym c.broken.ensures.broken ∙ c.in-Some.is);
+  hard = c.requires.hard;
 }
 
 pub end_running-requires-clause-running : goal.end_running-requires-clause-running

@@ -19,6 +19,7 @@ returns-in-Ok g c = record {
   committed =
       commit-done g.D.Shelf.told g.D.Shelf.faults c.args.due.txn c.args.due.wrote c.args.due.name c.args.due.put c.next_place-at.result c.args.house.now
       c.note_fitting.new.house c.next_place-at.ensures.place c.requires.unbroken c.requires.put c.requires.running.1 c.in-Ok.ensures.noted;
+  hard = c.note_fitting.ensures.hard;
 }
 
 pub returns : goal.returns
@@ -26,4 +27,5 @@ returns g c = record {
   committed =
       commit-failed g.D.Shelf.told g.D.Shelf.faults c.args.due.txn c.args.due.wrote c.args.due.name c.args.due.put c.in-Err.fault c.args.house.now
       c.note_fitting.new.house c.requires.clear c.in-Err.ensures.noted;
+  hard = c.note_fitting.ensures.hard;
 }

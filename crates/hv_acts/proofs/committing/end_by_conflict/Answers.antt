@@ -1,5 +1,6 @@
 use Rattle.std.proofs.Common.{◌≡◌, Some, List, slice_get, sym, ◌∙◌, subst}
 use Rattle.hv_base.specs.declared.ids.Touch.{Touch}
+use Rattle.hv_stands.specs.Running.{IsOwnCause}
 use Rattle.hv_acts.proofs.Commits.{found-within, found-small, found-fits, found-marked, found-true, found-met, commit-lacks}
 use Rattle.hv_acts.proofs.committing.end_by_conflict.Goals as goal
 
@@ -8,6 +9,12 @@ conflict_at-requires g c = record {
   within = found-within c.as_slice.result.now c.args.found.at c.requires.clash.touch
       (subst (λ (ts : List Touch). slice_get ts c.args.found.at ≡ Some c.requires.clash.touch) (sym c.as_slice.ensures) c.requires.clash.found);
 }
+
+pub note_conflict-requires-clause-own : goal.note_conflict-requires-clause-own
+note_conflict-requires-clause-own g c =
+    let of = c.in-Ok.ensures.conflict c.requires.clash.touch
+    (subst (λ (ts : List Touch). slice_get ts c.args.found.at ≡ Some c.requires.clash.touch) (sym c.as_slice.ensures) c.requires.clash.found) in
+    subst IsOwnCause (sym of.cause_is) tt
 
 pub note_conflict-requires-clause-small : goal.note_conflict-requires-clause-small
 note_conflict-requires-clause-small g c =
@@ -57,6 +64,7 @@ returns-in-Ok g c =
       committed = c.note_conflict.ensures.committed c.args.due.now.wrote c.args.due.now.name c.args.due.now.put
           (found-met c.args.house.now c.args.due.now.txn c.args.due.now.wrote c.args.found c.requires.clash c.requires.running c.args.due.now.name
           c.next_place-at.result c.in-Ok.conflict of);
+      hard = c.note_conflict.ensures.hard;
     }
 
 pub returns-in-Err : goal.returns-in-Err
@@ -64,4 +72,5 @@ returns-in-Err g c = record {
   committed =
       commit-lacks g.D.Shelf.told g.D.Shelf.faults c.args.due.now.txn c.args.due.now.wrote c.args.due.now.name c.args.due.now.put
       c.args.house.now c.requires.whole;
+  hard = c.requires.hard;
 }

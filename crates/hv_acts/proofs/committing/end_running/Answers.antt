@@ -12,6 +12,7 @@ returns-then-not-is_put g c = record {
   committed =
       commit-late g.D.Shelf.told g.D.Shelf.faults c.args.due.txn c.args.due.wrote c.args.due.name c.args.due.put c.late.result c.args.house.now
       c.requires.whole c.late.ensures.late (λ is. no-true c.is_put.result c.if-not-is_put.true (c.is_put.ensures.put.1 is.put));
+  hard = c.requires.hard;
 }
 
 pub clash-requires : goal.clash-requires

@@ -7,6 +7,7 @@ returns-then-not-runs_with g c = record {
   given =
       give-late g.D.Shelf.told g.D.Shelf.faults c.args.txn c.args.table c.late.result c.args.house.now c.requires.whole c.late.ensures.late
       (λ runs. no-true c.runs_with.result c.if-not-runs_with.true (c.runs_with.ensures.runs.1 runs));
+  hard = c.requires.hard;
 }
 
 pub give_none-requires-clause-runs : goal.give_none-requires-clause-runs

@@ -12,6 +12,7 @@ returns-in-Ok g c = record {
       c.next_id-write.ensures.next
       (subst (λ (w : WriteId). EntryStep {T = Unit {0}} g.D.Shelf.told g.D.Shelf.faults c.args.txn (entry.Given c.args.txn c.args.table w) c.args.house.now
       c.note_fitting.new.house (Ok tt)) c.next_id-write.ensures.next c.in-Ok.ensures.noted);
+  hard = c.note_fitting.ensures.hard;
 }
 
 pub returns-in-Err : goal.returns-in-Err
@@ -20,4 +21,5 @@ returns-in-Err g c = record {
       give-refused g.D.Shelf.told g.D.Shelf.faults c.args.txn c.args.table c.in-Err.fault c.args.house.now c.note_fitting.new.house c.requires.runs c.requires.room
       (subst (λ (w : WriteId). EntryStep {T = Unit {0}} g.D.Shelf.told g.D.Shelf.faults c.args.txn (entry.Given c.args.txn c.args.table w) c.args.house.now
       c.note_fitting.new.house (Err c.in-Err.fault)) c.next_id-write.ensures.next c.in-Err.ensures.noted);
+  hard = c.note_fitting.ensures.hard;
 }

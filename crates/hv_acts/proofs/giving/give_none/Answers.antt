@@ -10,10 +10,12 @@ returns-in-Ok g c = record {
   given =
       give-aborted g.D.Shelf.told g.D.Shelf.faults c.args.txn c.args.table c.in-Ok.aborted c.args.house.now c.abort_full.new.house c.requires.runs c.requires.full
       c.in-Ok.ensures.noted;
+  hard = c.abort_full.ensures.hard;
 }
 
 pub returns-in-Err : goal.returns-in-Err
 returns-in-Err g c = record {
   given =
       give-halted g.D.Shelf.told g.D.Shelf.faults c.args.txn c.args.table c.in-Err.fault c.args.house.now c.abort_full.new.house c.requires.full c.in-Err.ensures.noted;
+  hard = c.abort_full.ensures.hard;
 }

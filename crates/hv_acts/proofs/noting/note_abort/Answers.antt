@@ -1,4 +1,6 @@
 use Rattle.hv_history.specs.declared.entry.Entry.TheVariants as entry
+use Rattle.hv_telling.specs.hv_house.specs.Steps.{seen_of}
+use Rattle.hv_telling.specs.hv_house.proofs.Hards.{shuts_later}
 use Rattle.hv_acts.proofs.Notes.{fits-book}
 use Rattle.hv_acts.proofs.Aborts.{abort-marked, abort-true, abort-done, abort-failed}
 use Rattle.hv_acts.proofs.noting.note_abort.Goals as goal
@@ -17,12 +19,14 @@ returns-in-Ok g c = record {
   noted =
       abort-done g.D.Shelf.told g.D.Shelf.faults c.args.txn c.args.cause c.args.aborted c.args.house.now c.note.new.house c.requires.whole
       c.in-Ok.ensures.whole c.requires.place c.requires.same c.in-Ok.ensures.step;
+  hard = shuts_later g.D.Shelf.hard (seen_of c.args.house.now) (seen_of c.note.new.house) c.note.ensures.step.rest.start c.note.ensures.hard c.requires.hard;
 }
 
 pub returns-in-Err : goal.returns-in-Err
 returns-in-Err g c = record {
   noted =
-      abort-failed g.D.Shelf.told g.D.Shelf.faults c.args.txn c.args.cause c.args.aborted.text c.in-Err.fault c.args.house.now c.note.new.house c.requires.whole
+      abort-failed g.D.Shelf.told g.D.Shelf.faults c.args.txn c.args.cause c.args.aborted.text c.in-Err.fault c.args.house.now c.note.new.house c.requires.own c.requires.whole
       c.requires.fits c.in-Err.ensures.stays c.in-Err.ensures.halted c.in-Err.ensures.cause.failed
       c.in-Err.ensures.opens c.in-Err.ensures.start c.in-Err.ensures.step;
+  hard = shuts_later g.D.Shelf.hard (seen_of c.args.house.now) (seen_of c.note.new.house) c.note.ensures.step.rest.start c.note.ensures.hard c.requires.hard;
 }

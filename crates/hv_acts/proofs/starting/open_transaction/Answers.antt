@@ -1,5 +1,7 @@
 use Rattle.std.proofs.Common.{rules, sym}
+use Rattle.hv_telling.specs.hv_house.specs.Steps.{seen_of}
 use Rattle.hv_telling.specs.hv_house.proofs.Lengths.{short_opened}
+use Rattle.hv_telling.specs.hv_house.proofs.Hards.{shuts_later}
 use Rattle.hv_acts.proofs.Notes.{no-true}
 use Rattle.hv_acts.proofs.Opens.{next-of, open-done, open-full, open-failed}
 use Rattle.hv_acts.proofs.starting.open_transaction.Goals as goal
@@ -35,3 +37,11 @@ returns-in-Err-clause-opened g c =
     open-failed g.D.Shelf.told g.D.Shelf.faults c.args.session c.args.number c.args.text c.next_txn-txn.result c.in-Err.fault c.args.house.now c.note.new.house
     c.requires.whole c.next_txn-txn.ensures.next (c.fits.ensures.fits.0 c.if-not-fits.false) c.in-Err.ensures.stays c.in-Err.ensures.halted
     c.in-Err.ensures.cause.failed c.in-Err.ensures.opens c.in-Err.ensures.start c.in-Err.ensures.step
+
+pub returns-in-Ok-clause-hard : goal.returns-in-Ok-clause-hard
+returns-in-Ok-clause-hard g c =
+    shuts_later g.D.Shelf.hard (seen_of c.args.house.now) (seen_of c.note.new.house) c.note.ensures.step.rest.start c.note.ensures.hard c.requires.hard
+
+pub returns-in-Err-clause-hard : goal.returns-in-Err-clause-hard
+returns-in-Err-clause-hard g c =
+    shuts_later g.D.Shelf.hard (seen_of c.args.house.now) (seen_of c.note.new.house) c.note.ensures.step.rest.start c.note.ensures.hard c.requires.hard

@@ -10,6 +10,7 @@ returns-in-Ok g c = record {
   started =
       go-noted g.D.Shelf.told g.D.Shelf.faults c.args.txn c.next_place-place.result c.args.house.now c.note_fitting.new.house c.next_place-place.ensures.place
       c.in-Ok.ensures.noted;
+  hard = c.note_fitting.ensures.hard;
 }
 
 pub returns-in-Err : goal.returns-in-Err
@@ -17,4 +18,5 @@ returns-in-Err g c = record {
   started =
       go-refused g.D.Shelf.told g.D.Shelf.faults c.args.txn c.in-Err.fault c.args.house.now c.note_fitting.new.house c.requires.room c.requires.unheld
       c.in-Err.ensures.noted;
+  hard = c.note_fitting.ensures.hard;
 }

@@ -14,6 +14,7 @@ returns-in-Ok g c = record {
   started =
       stop-aborted g.D.Shelf.told g.D.Shelf.faults c.args.txn cause.Full c.in-Ok.aborted c.args.house.now c.abort_full.new.house
       (full-way (trail_of c.args.house.now.trail) c.args.txn c.requires.full c.requires.unheld) c.in-Ok.ensures.noted;
+  hard = c.abort_full.ensures.hard;
 }
 
 pub returns-in-Err : goal.returns-in-Err
@@ -21,4 +22,5 @@ returns-in-Err g c = record {
   started =
       stop-halted g.D.Shelf.told g.D.Shelf.faults c.args.txn cause.Full c.in-Err.fault c.args.house.now c.abort_full.new.house
       (to-full (trail_of c.args.house.now.trail) c.args.txn c.requires.full c.requires.unheld) c.in-Err.ensures.noted;
+  hard = c.abort_full.ensures.hard;
 }

@@ -1,10 +1,7 @@
 use Rattle.std.proofs.Common.{sym, ◌∙◌}
-use Rattle.hv_program.proofs.Acting.{let-go-true, let-go-one, released-held, released-truly, released-acts, released-stops, none-held, none-truly, none-acts}
+use Rattle.hv_program.proofs.Acting.{let-go-true, released-held, released-truly, released-acts, released-stops, none-held, none-truly, none-acts}
 use Rattle.hv_program.proofs.Sessions.{let-go-can, released-can, none-can}
 use Rattle.hv_program.proofs.action.release.Goals as goal
-
-pub finish_alone-requires-clause-held : goal.finish_alone-requires-clause-held
-finish_alone-requires-clause-held g c = let-go-one _ _ _ c.in-Some.paused c.requires.held (sym c.let_go.ensures.found ∙ c.in-Some.is)
 
 pub finish_alone-requires-clause-truly : goal.finish_alone-requires-clause-truly
 finish_alone-requires-clause-truly g c = λ is. let-go-true _ c.args.session.now.name _ c.in-Some.paused (sym c.let_go.ensures.found ∙ c.in-Some.is) (c.requires.truly is)

@@ -2,13 +2,16 @@ use Rattle.std.proofs.Common.{◌≤◌, ℕ, Option, IfOk, IfErr, List, length,
 use Rattle.hv_base.specs.declared.gate.Stage.{Stage}
 use Rattle.hv_stands.specs.Running.{Asking}
 use Rattle.hv_actor.specs.Rows.{later_itself}
-use Rattle.hv_session.specs.hv_steps.specs.hv_acts.specs.Told.{seen_in}
-use Rattle.hv_session.specs.hv_steps.specs.hv_acts.specs.hv_telling.specs.hv_house.specs.House.{entries_of}
+use Rattle.hv_session.specs.hv_steps.specs.hv_table_reader.specs.hv_acts.specs.Told.{seen_in}
+use Rattle.hv_session.specs.hv_steps.specs.hv_table_reader.specs.hv_acts.specs.hv_telling.specs.hv_house.specs.House.{entries_of}
 use Rattle.hv_session.specs.Doing.{IsHold}
 use Rattle.hv_session.specs.Taking.{asked_of, IsKeptIn, IsTakenAs}
 use Rattle.hv_session.specs.Ways.{StopsTaken}
+use Rattle.hv_session.specs.hv_steps.specs.hv_table_reader.specs.hv_acts.specs.hv_telling.specs.hv_house.specs.declared.fault.HouseFault.TheVariants as fault
 use Rattle.hv_program.specs.Doing.{asking_of}
+use Rattle.hv_program.specs.Stops.{IsShutFor}
 use Rattle.hv_program.proofs.Acting.{opens-first}
+use Rattle.hv_program.proofs.Blaming.{passed_up}
 use Rattle.hv_program.proofs.Unasked.{still-adds, lacking-taken, still-stops}
 use Rattle.hv_program.proofs.action.take.Goals as goal
 
@@ -52,3 +55,6 @@ returns-in_err-memory_reply-in-Err-clause-stopped g c =
 
 pub returns-in_err-memory_reply-in-Err-clause-opens : goal.returns-in_err-memory_reply-in-Err-clause-opens
 returns-in_err-memory_reply-in-Err-clause-opens g c = opens-first g.D.Shelf.told c.args.house.now.house c.from_residual.result c.requires.whole
+
+pub returns-in_err-memory_reply-in-Err-clause-shut : goal.returns-in_err-memory_reply-in-Err-clause-shut
+returns-in_err-memory_reply-in-Err-clause-shut g c = passed_up c.from_residual.result fault.NoMemory (IsShutFor c.args.house.now) c.from_residual.ensures.1 tt

@@ -1,11 +1,11 @@
 use Rattle.hv_session.specs.hv_steps.specs.Going.{faults_in}
 use Rattle.hv_session.specs.Doing.{TakesText}
 use Rattle.hv_session.specs.Taking.{asked_of}
-use Rattle.hv_program.proofs.Sessions.{acts-alone, whole-keeps, taking-whole, taking-added, taking-later}
+use Rattle.hv_program.proofs.Sessions.{acts-alone, is-kept, shuts-kept, taking-whole, taking-added, taking-later, taking-shut}
 use Rattle.hv_program.proofs.alone.take_alone.Goals as goal
 
 pub take_up-requires-clause-keeps : goal.take_up-requires-clause-keeps
-take_up-requires-clause-keeps g c = whole-keeps g.D.Shelf.told c.args.house.now.house c.requires.whole
+take_up-requires-clause-keeps g c = is-kept g.D.Shelf.told g.D.Shelf.hard c.args.house.now c.requires.whole c.requires.hard
 
 pub take_up-requires-clause-running : goal.take_up-requires-clause-running
 take_up-requires-clause-running g c = c.requires.whole.ready.kept.running
@@ -45,3 +45,10 @@ returns-clause-opens g c = (c.take_up.ensures.alone acts-alone).taking.opens
 
 pub returns-clause-cause : goal.returns-clause-cause
 returns-clause-cause g c = (c.take_up.ensures.alone acts-alone).taking.cause
+
+pub returns-clause-hard : goal.returns-clause-hard
+returns-clause-hard g c = shuts-kept g.D.Shelf.told g.D.Shelf.hard c.take_up.new.actor c.take_up.ensures.keeps
+
+pub returns-clause-shut : goal.returns-clause-shut
+returns-clause-shut g c =
+    taking-shut g.D.Shelf.told g.D.Shelf.faults (asked_of c.args.asking) _ _ c.args.house.now c.take_up.new.actor c.take_up.result c.take_up.ensures.halts

@@ -39,7 +39,7 @@ returns-in-Ok-read_actions g c =
     let some = a-command c.read_run.result _ c.is_none.result c.read_run.ensures.value c.is_none.ensures c.if-is_none.false in
     let fine = tells-refused c.in-Ok.bytes.items c.deref.result.now _ _ _ c.deref.ensures.value c.in-Ok.ensures.taken c.in-Ok-read_actions.ensures.read.0 in
     let refused = refuses-served _ _ _ _ some fine c.serve.ensures.opened in
-    let causes = causes-served _ _ _ c.serve.ensures.opened.only c.serve.ensures.blames in
+    let causes = causes-served _ _ _ c.serve.ensures.opened.only c.serve.ensures.blames c.serve.ensures.hard in
     record {
       headline = Headline-served _ _ _ c.in-Ok.bytes.items c.deref.result.now c.as_slice.result.now _ _ _ _ _ _ _ c.deref.ensures.value c.in-Ok.ensures.taken
           c.in-Ok-read_actions.ensures.read.0 (c.as_slice.ensures ∙ c.in-Ok-read_actions.ensures.read.1) c.in-Ok.ensures.tells c.serve.ensures.heard c.serve.ensures.served;

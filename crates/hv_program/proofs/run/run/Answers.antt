@@ -1,8 +1,11 @@
 use Rattle.std.proofs.Common.{arith, ◌∙◌}
 use Rattle.std.proofs.lemmas.List.{take_all}
 use Rattle.hv_base.proofs.ToldLemmas.{stays_stays, stays_by}
-use Rattle.hv_session.specs.hv_steps.specs.hv_acts.specs.hv_telling.proofs.Told.{told-stays}
+use Rattle.hv_session.specs.hv_steps.specs.hv_table_reader.specs.hv_acts.specs.hv_telling.proofs.Told.{told-stays}
+use Rattle.hv_program.specs.declared.stop.Stop.TheVariants as stop
 use Rattle.hv_program.specs.Keeping.{standing_of}
+use Rattle.hv_program.specs.Stops.{ShutsFor}
+use Rattle.hv_program.proofs.Blaming.{passed_up, shut-passed}
 use Rattle.hv_program.proofs.Turns.{Prints-next, Prints-all, Halts-stopped, Halts-cut}
 use Rattle.hv_program.proofs.run.run.Goals as goal
 
@@ -18,6 +21,7 @@ loop-action-preserved g c = record {
       (c.loop-action.invariant.prints is)
       (c.in_ok-reply.ensures.acted (told-stays g.D.Shelf.told c.args.house.now.house c.loop-action.house.house c.loop-action.invariant.start is));
   start = c.in_ok-reply.ensures.start ∙ c.loop-action.invariant.start;
+  hard = c.in_ok-reply.ensures.hard;
   heard = stays_stays _ _ _ c.loop-action.invariant.heard (stays_by _ _ _ c.in_ok-write_all.ensures.done);
   later_store = omega (arith, c.loop-action.invariant.later_store, c.in_ok-reply.ensures.cause.later);
   later_sink = omega (arith, c.loop-action.invariant.later_sink, c.in_ok-write_all.ensures.cause.later);
@@ -43,3 +47,11 @@ returns-in_err-write_all-clause-halts g c = λ is.
 pub returns-clause-prints : goal.returns-clause-prints
 returns-clause-prints g c = λ is.
     Prints-all _ _ _ _ _ _ _ _ _ _ (take_all c.loop-action.action-index c.args.actions.now (omega (arith, c.loop-action-test.false))) (c.loop-action.invariant.prints is)
+
+pub returns-in_err-reply-clause-shut : goal.returns-in_err-reply-clause-shut
+returns-in_err-reply-clause-shut g c =
+    shut-passed c.act.new.house c.in_err-reply.field-0.0 c.from_residual.result c.from_residual.ensures.1 c.in_err-reply.ensures.ends c.in_err-reply.ensures.shut
+
+pub returns-in_err-write_all-clause-shut : goal.returns-in_err-write_all-clause-shut
+returns-in_err-write_all-clause-shut g c =
+    passed_up c.from_residual-in_err-write_all.result stop.Sink (ShutsFor c.act.new.house) c.from_residual-in_err-write_all.ensures.1 tt

@@ -1,5 +1,6 @@
-use Rattle.hv_steps.specs.hv_acts.specs.Told.{trail_in}
-use Rattle.hv_steps.specs.hv_acts.proofs.Lasting.{put-lasts, commit-lasts}
+use Rattle.hv_steps.specs.hv_table_reader.specs.hv_acts.specs.Told.{trail_in}
+use Rattle.hv_steps.specs.hv_table_reader.specs.hv_acts.proofs.Lasting.{put-lasts, commit-lasts}
+use Rattle.hv_steps.specs.hv_table_reader.specs.hv_acts.proofs.Mine.{commit-mine}
 use Rattle.hv_steps.proofs.Joining.{reached-front, found-told, held-adds, act-left, act-risen, ends-rise}
 use Rattle.hv_session.proofs.Commits.{commit-ends, commit-book, commit-names, commit-ended, commit-answered}
 use Rattle.hv_session.proofs.concluding.commit.Goals as goal
@@ -22,6 +23,7 @@ returns-clause-adds g c =
     (ends-rise c.hold.result _ _ (commit-ends c.args.txn c.args.wrote c.hold.result c.hold.ensures.held.step.may))
     (act-risen g.D.Shelf.told g.D.Shelf.faults g.W.Actor.meanwhile g.met.W.Actor.goes_on (g.W.Actor.house c.args.actor.now) (g.W.Actor.house c.hold.new.self)
     _ c.hold.result _ c.args.txn.0 c.hold.ensures.held c.hold.ensures.held.does_it.1)
+    (commit-mine (trail_in c.hold.ensures.held.house) c.args.txn c.args.wrote c.args.name c.args.put c.hold.result c.hold.ensures.held.does_it.0)
 
 pub returns-clause-ended : goal.returns-clause-ended
 returns-clause-ended g c =

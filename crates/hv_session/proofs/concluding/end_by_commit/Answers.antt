@@ -1,4 +1,4 @@
-use Rattle.hv_steps.specs.hv_acts.specs.Told.{trail_in}
+use Rattle.hv_steps.specs.hv_table_reader.specs.hv_acts.specs.Told.{trail_in}
 use Rattle.hv_steps.specs.Going.{faults_in}
 use Rattle.hv_steps.specs.Phases.{NoCause}
 use Rattle.hv_steps.specs.declared.ready.End.TheVariants as last

@@ -1,7 +1,9 @@
-use Rattle.hv_steps.specs.hv_acts.specs.Told.{trail_in}
-use Rattle.hv_steps.specs.hv_acts.specs.Answers.{NoTest}
-use Rattle.hv_steps.specs.hv_acts.specs.Dropping.{CanDrop, drop_of}
-use Rattle.hv_steps.specs.hv_acts.proofs.Lasting.{drop-lasts}
+use Rattle.std.proofs.Common.{refl}
+use Rattle.hv_steps.specs.hv_table_reader.specs.hv_acts.specs.Told.{trail_in}
+use Rattle.hv_steps.specs.hv_table_reader.specs.hv_acts.specs.Answers.{NoTest}
+use Rattle.hv_steps.specs.hv_table_reader.specs.hv_acts.specs.Dropping.{CanDrop, drop_of}
+use Rattle.hv_steps.specs.hv_table_reader.specs.hv_acts.proofs.Lasting.{drop-lasts}
+use Rattle.hv_steps.specs.hv_table_reader.specs.hv_acts.proofs.Mine.{entry-mine}
 use Rattle.hv_steps.proofs.Joining.{reached-front, found-told, held-adds, act-left, act-risen, answers-name, note-ends, ends-rise}
 use Rattle.hv_steps.proofs.Aborts.{book-added}
 use Rattle.hv_session.proofs.Commits.{drop-replied}
@@ -22,6 +24,7 @@ returns-clause-adds g c =
     (ends-rise c.hold.result _ _ (note-ends _ c.hold.result c.hold.ensures.held.step.may))
     (act-risen g.D.Shelf.told g.D.Shelf.faults g.W.Actor.meanwhile g.met.W.Actor.goes_on (g.W.Actor.house c.args.actor.now) (g.W.Actor.house c.hold.new.self)
     _ c.hold.result _ c.args.txn.0 c.hold.ensures.held c.hold.ensures.held.does_it.1)
+    (entry-mine c.args.txn.0 (drop_of c.args.txn c.args.table) (λ at. refl) c.hold.result)
 
 pub returns-clause-replied : goal.returns-clause-replied
 returns-clause-replied g c =

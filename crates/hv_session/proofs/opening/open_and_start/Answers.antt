@@ -1,7 +1,8 @@
 use Rattle.std.proofs.Common.{inl, sym, subst, Result}
-use Rattle.hv_steps.specs.hv_acts.specs.hv_telling.specs.hv_house.specs.declared.fault.HouseFault.{HouseFault}
+use Rattle.hv_steps.specs.hv_table_reader.specs.hv_acts.specs.hv_telling.specs.hv_house.specs.declared.fault.HouseFault.{HouseFault}
 use Rattle.hv_steps.specs.declared.reply.Opened.{Opened}
 use Rattle.hv_session.specs.Beginnings.{GoesBeginning}
+use Rattle.hv_actor.specs.Acting.{among, known}
 use Rattle.hv_session.proofs.opening.open_and_start.Goals as goal
 
 pub start_or_end-requires-clause-running : goal.start_or_end-requires-clause-running
@@ -16,5 +17,7 @@ returns-in-Ok-clause-goes g c = λ first own was.
 
 pub returns-in-Err-clause-goes : goal.returns-in-Err-clause-goes
 returns-in-Err-clause-goes g c = λ first own was.
-    subst (λ (r : Result Opened HouseFault). GoesBeginning g.D.Shelf.told g.D.Shelf.faults g.W.Actor.between g.W.Actor.meanwhile (record { session = c.args.session; number = c.args.number; text = c.args.text }) c.args.tree
-    own (g.W.Actor.own c.open_waiting.new.actor) first (g.W.Actor.house c.open_waiting.new.actor) r) (sym c.unopened.ensures.unopened) (c.in-Err.ensures.opens first own was)
+    subst (λ (r : Result Opened HouseFault). GoesBeginning (among g.D.Shelf.told g.D.Shelf.faults g.W.Actor.between g.W.Actor.meanwhile)
+    (record { session = c.args.session; number = c.args.number; text = c.args.text }) c.args.tree
+    (known own first) (known (g.W.Actor.own c.open_waiting.new.actor) (g.W.Actor.house c.open_waiting.new.actor)) r) (sym c.unopened.ensures.unopened)
+    (c.in-Err.ensures.opens first own was)

@@ -1,5 +1,5 @@
-use Rattle.hv_steps.specs.hv_acts.specs.Told.{trail_in}
-use Rattle.hv_steps.specs.hv_acts.specs.Starting.{adds_started}
+use Rattle.hv_steps.specs.hv_table_reader.specs.hv_acts.specs.Told.{trail_in}
+use Rattle.hv_steps.specs.hv_table_reader.specs.hv_acts.specs.Starting.{adds_started}
 use Rattle.hv_steps.proofs.Joining.{front-went, opened-lasts}
 use Rattle.hv_session.proofs.Openings.{start-left, start-ends, starts-so}
 use Rattle.hv_session.proofs.opening.start_waiting.Goals as goal

@@ -1,7 +1,8 @@
 use Rattle.std.proofs.Common.{subst, Ok, Err}
-use Rattle.hv_steps.specs.hv_acts.specs.Told.{trail_in}
+use Rattle.hv_steps.specs.hv_table_reader.specs.hv_acts.specs.Told.{trail_in}
 use Rattle.hv_steps.specs.Going.{faults_in}
-use Rattle.hv_steps.specs.Phases.{Prepares, CanConcludeIn}
+use Rattle.hv_steps.specs.Phases.{PreparesAsked, CanConcludeIn}
+use Rattle.hv_steps.specs.Requests.{IsAskIn}
 use Rattle.hv_session.specs.Doing.{EndsFrom}
 use Rattle.hv_steps.specs.declared.reply.Prepared.TheVariants as prepared
 use Rattle.hv_steps.proofs.Joining.{on-way-opened}
@@ -13,66 +14,68 @@ pub conclude-requires-clause-was : goal.conclude-requires-clause-was
 conclude-requires-clause-was g c =
     let was = c.requires.was in
     let before = g.W.Actor.house c.args.actor.now in
-    let now = g.W.Actor.house c.prepare.new.actor in
-    on-way-opened (trail_in now) was.0 c.args.way was.1
+    let now = g.W.Actor.house c.get_ready.new.actor in
+    on-way-opened (trail_in now) was.0 c.args.way c.args.tree.now
     (done-way g.D.Shelf.told g.D.Shelf.faults g.W.Actor.between g.met.W.Actor.rows g.W.Actor.meanwhile c.args.way.txn.0 (faults_in g.D.Shelf.faults before)
-    (g.W.Actor.own c.args.actor.now) (g.W.Actor.own c.prepare.new.actor) before now (Prepares c.args.way.txn.0 now c.args.meaning) (prepared.Ready c.in-Ok-Ready.ready)
-    was.0 c.args.way was.1 (goes-said c.in-Ok-Ready.field-0-is c.in-Ok-Ready.ensures.goes) was.2)
+    (g.W.Actor.own c.args.actor.now) (g.W.Actor.own c.get_ready.new.actor) before now (PreparesAsked c.args.way.txn.0 now (IsAskIn now c.args.way c.args.tree.now) c.args.meaning) (prepared.Ready c.in-Ok-Ready.ready)
+    was.0 c.args.way c.args.tree.now (goes-said c.in-Ok-Ready.field-0-is c.in-Ok-Ready.ensures.goes) was.1)
 
 pub conclude-requires-clause-can : goal.conclude-requires-clause-can
 conclude-requires-clause-can g c =
-    subst (CanConcludeIn g.D.Shelf.told (g.W.Actor.house c.prepare.new.actor) c.args.way) c.in-Ok-Ready.field-0-is c.in-Ok-Ready.ensures.can
+    subst (CanConcludeIn g.D.Shelf.told (g.W.Actor.house c.get_ready.new.actor) c.args.way) c.in-Ok-Ready.field-0-is c.in-Ok-Ready.ensures.can
 
 pub returns-in-Ok-Ready-clause-goes : goal.returns-in-Ok-Ready-clause-goes
 returns-in-Ok-Ready-clause-goes g c =
-    ready-ends g.D.Shelf.told g.D.Shelf.faults g.W.Actor.between g.met.W.Actor.rows g.W.Actor.meanwhile c.args.way.txn.0
-    (g.W.Actor.own c.args.actor.now) (g.W.Actor.own c.prepare.new.actor) (g.W.Actor.own c.conclude.new.actor)
-    (g.W.Actor.house c.args.actor.now) (g.W.Actor.house c.prepare.new.actor) (g.W.Actor.house c.conclude.new.actor)
-    c.args.meaning c.in-Ok-Ready.ready c.conclude.result (goes-said c.in-Ok-Ready.field-0-is c.in-Ok-Ready.ensures.goes) c.conclude.ensures.goes
+    ready-ends g.D.Shelf.told g.D.Shelf.faults g.W.Actor.between g.met.W.Actor.rows g.W.Actor.meanwhile
+    (g.W.Actor.own c.args.actor.now) (g.W.Actor.own c.get_ready.new.actor) (g.W.Actor.own c.conclude.new.actor)
+    (g.W.Actor.house c.args.actor.now) (g.W.Actor.house c.get_ready.new.actor) (g.W.Actor.house c.conclude.new.actor)
+    c.args.way c.args.tree.now c.args.meaning c.in-Ok-Ready.ready c.conclude.result (goes-said c.in-Ok-Ready.field-0-is c.in-Ok-Ready.ensures.goes) c.conclude.ensures.goes
 
 pub returns-in-Ok-Ready-clause-answered : goal.returns-in-Ok-Ready-clause-answered
 returns-in-Ok-Ready-clause-answered g c = λ told.
     let before = g.W.Actor.house c.args.actor.now in
-    let now = g.W.Actor.house c.prepare.new.actor in
+    let now = g.W.Actor.house c.get_ready.new.actor in
     c.conclude.ensures.answered
     (done-told g.D.Shelf.told g.D.Shelf.faults g.W.Actor.between g.met.W.Actor.rows g.W.Actor.meanwhile c.args.way.txn.0 (faults_in g.D.Shelf.faults before)
-    (g.W.Actor.own c.args.actor.now) (g.W.Actor.own c.prepare.new.actor) before now (Prepares c.args.way.txn.0 now c.args.meaning) (prepared.Ready c.in-Ok-Ready.ready)
+    (g.W.Actor.own c.args.actor.now) (g.W.Actor.own c.get_ready.new.actor) before now (PreparesAsked c.args.way.txn.0 now (IsAskIn now c.args.way c.args.tree.now) c.args.meaning) (prepared.Ready c.in-Ok-Ready.ready)
     (goes-said c.in-Ok-Ready.field-0-is c.in-Ok-Ready.ensures.goes) told)
 
 pub returns-in-Ok-Ended-clause-goes : goal.returns-in-Ok-Ended-clause-goes
 returns-in-Ok-Ended-clause-goes g c =
-    ended-ends g.D.Shelf.told g.D.Shelf.faults g.W.Actor.between g.met.W.Actor.rows g.W.Actor.meanwhile c.args.way.txn.0
-    (faults_in g.D.Shelf.faults (g.W.Actor.house c.args.actor.now)) (g.W.Actor.own c.args.actor.now) (g.W.Actor.own c.prepare.new.actor)
-    (g.W.Actor.house c.args.actor.now) (g.W.Actor.house c.prepare.new.actor) c.args.meaning c.in-Ok-Ended.found (goes-said c.in-Ok-Ended.field-0-is c.in-Ok-Ended.ensures.goes)
+    ended-ends g.D.Shelf.told g.D.Shelf.faults g.W.Actor.between g.met.W.Actor.rows g.W.Actor.meanwhile
+    (faults_in g.D.Shelf.faults (g.W.Actor.house c.args.actor.now)) (g.W.Actor.own c.args.actor.now) (g.W.Actor.own c.get_ready.new.actor)
+    (g.W.Actor.house c.args.actor.now) (g.W.Actor.house c.get_ready.new.actor) c.args.way c.args.tree.now c.args.meaning c.in-Ok-Ended.found
+    (goes-said c.in-Ok-Ended.field-0-is c.in-Ok-Ended.ensures.goes)
 
 pub returns-in-Ok-Ended-clause-answered : goal.returns-in-Ok-Ended-clause-answered
 returns-in-Ok-Ended-clause-answered g c = λ told.
     ended-truly g.D.Shelf.told g.D.Shelf.faults g.W.Actor.between g.met.W.Actor.rows g.W.Actor.meanwhile c.args.way.txn.0
-    (faults_in g.D.Shelf.faults (g.W.Actor.house c.args.actor.now)) (g.W.Actor.own c.args.actor.now) (g.W.Actor.own c.prepare.new.actor)
-    (g.W.Actor.house c.args.actor.now) (g.W.Actor.house c.prepare.new.actor) c.args.meaning c.in-Ok-Ended.found (goes-said c.in-Ok-Ended.field-0-is c.in-Ok-Ended.ensures.goes)
+    (faults_in g.D.Shelf.faults (g.W.Actor.house c.args.actor.now)) (g.W.Actor.own c.args.actor.now) (g.W.Actor.own c.get_ready.new.actor)
+    (g.W.Actor.house c.args.actor.now) (g.W.Actor.house c.get_ready.new.actor) (IsAskIn (g.W.Actor.house c.get_ready.new.actor) c.args.way c.args.tree.now)
+    c.args.meaning c.in-Ok-Ended.found (goes-said c.in-Ok-Ended.field-0-is c.in-Ok-Ended.ensures.goes)
 
 pub returns-in-Err-clause-goes : goal.returns-in-Err-clause-goes
 returns-in-Err-clause-goes g c =
     let before = g.W.Actor.house c.args.actor.now in
-    let now = g.W.Actor.house c.prepare.new.actor in
+    let now = g.W.Actor.house c.get_ready.new.actor in
     halted-so g.D.Shelf.told g.D.Shelf.faults g.W.Actor.between g.met.W.Actor.rows g.W.Actor.meanwhile c.args.way.txn.0 (faults_in g.D.Shelf.faults before)
-    (g.W.Actor.own c.args.actor.now) (g.W.Actor.own c.prepare.new.actor) before now (Prepares c.args.way.txn.0 now c.args.meaning)
-    (EndsFrom c.args.way.txn.0 now c.args.meaning) c.in-Err.why c.in-Err.ensures.goes
+    (g.W.Actor.own c.args.actor.now) (g.W.Actor.own c.get_ready.new.actor) before now (PreparesAsked c.args.way.txn.0 now (IsAskIn now c.args.way c.args.tree.now) c.args.meaning)
+    (EndsFrom now c.args.way c.args.tree.now c.args.meaning) c.in-Err.why c.in-Err.ensures.goes
 
 pub returns-in-Ok-Ready-clause-alone : goal.returns-in-Ok-Ready-clause-alone
-returns-in-Ok-Ready-clause-alone g c = λ alone on can.
+returns-in-Ok-Ready-clause-alone g c = λ alone on means can.
     from-alone g.D.Shelf.told g.D.Shelf.faults g.W.Actor.between g.W.Actor.meanwhile alone (g.W.Actor.own c.args.actor.now) (g.W.Actor.own c.conclude.new.actor)
     (g.W.Actor.house c.args.actor.now) (g.W.Actor.house c.conclude.new.actor) c.requires.running (g.met.W.Actor.kept c.conclude.new.actor c.conclude.ensures.keeps)
-    c.args.way c.args.meaning c.conclude.result (returns-in-Ok-Ready-clause-goes g c) (returns-in-Ok-Ready-clause-answered g c) on
+    c.args.way c.args.tree.now c.args.meaning c.conclude.result (returns-in-Ok-Ready-clause-goes g c) (returns-in-Ok-Ready-clause-answered g c) on means
 
 pub returns-in-Ok-Ended-clause-alone : goal.returns-in-Ok-Ended-clause-alone
-returns-in-Ok-Ended-clause-alone g c = λ alone on can.
-    from-alone g.D.Shelf.told g.D.Shelf.faults g.W.Actor.between g.W.Actor.meanwhile alone (g.W.Actor.own c.args.actor.now) (g.W.Actor.own c.prepare.new.actor)
-    (g.W.Actor.house c.args.actor.now) (g.W.Actor.house c.prepare.new.actor) c.requires.running (g.met.W.Actor.kept c.prepare.new.actor c.in-Ok-Ended.ensures.keeps)
-    c.args.way c.args.meaning (Ok c.in-Ok-Ended.found) (returns-in-Ok-Ended-clause-goes g c) (returns-in-Ok-Ended-clause-answered g c) on
+returns-in-Ok-Ended-clause-alone g c = λ alone on means can.
+    from-alone g.D.Shelf.told g.D.Shelf.faults g.W.Actor.between g.W.Actor.meanwhile alone (g.W.Actor.own c.args.actor.now) (g.W.Actor.own c.get_ready.new.actor)
+    (g.W.Actor.house c.args.actor.now) (g.W.Actor.house c.get_ready.new.actor) c.requires.running (g.met.W.Actor.kept c.get_ready.new.actor c.in-Ok-Ended.ensures.keeps)
+    c.args.way c.args.tree.now c.args.meaning (Ok c.in-Ok-Ended.found) (returns-in-Ok-Ended-clause-goes g c) (returns-in-Ok-Ended-clause-answered g c) on means
 
 pub returns-in-Err-clause-alone : goal.returns-in-Err-clause-alone
-returns-in-Err-clause-alone g c = λ alone on can.
-    from-alone g.D.Shelf.told g.D.Shelf.faults g.W.Actor.between g.W.Actor.meanwhile alone (g.W.Actor.own c.args.actor.now) (g.W.Actor.own c.prepare.new.actor)
-    (g.W.Actor.house c.args.actor.now) (g.W.Actor.house c.prepare.new.actor) c.requires.running (g.met.W.Actor.kept c.prepare.new.actor c.in-Err.ensures.keeps)
-    c.args.way c.args.meaning (Err c.in-Err.why) (returns-in-Err-clause-goes g c) (λ is. tt) on
+returns-in-Err-clause-alone g c = λ alone on means can.
+    from-alone g.D.Shelf.told g.D.Shelf.faults g.W.Actor.between g.W.Actor.meanwhile alone (g.W.Actor.own c.args.actor.now) (g.W.Actor.own c.get_ready.new.actor)
+    (g.W.Actor.house c.args.actor.now) (g.W.Actor.house c.get_ready.new.actor) c.requires.running (g.met.W.Actor.kept c.get_ready.new.actor c.in-Err.ensures.keeps)
+    c.args.way c.args.tree.now c.args.meaning (Err c.in-Err.why) (returns-in-Err-clause-goes g c) (λ is. tt) on means

@@ -14,14 +14,18 @@ end_as-requires-clause-was g c =
     let now = g.W.Actor.house c.see.new.actor in
     let low = faults_in g.D.Shelf.faults before in (
       was.0,
-      c.args.tree.now,
       done-way g.D.Shelf.told g.D.Shelf.faults g.W.Actor.between g.met.W.Actor.rows g.W.Actor.meanwhile c.args.way.txn.0 low
           (g.W.Actor.own c.args.actor.now) (g.W.Actor.own c.see.new.actor) before now (Sees g.D.Shelf.told now c.args.way c.args.tree.now) (outcome.Means c.in-Ok-Means.meaning)
           was.0 c.args.way c.args.tree.now (goes-said c.in-Ok-Means.field-0-is c.in-Ok-Means.ensures.goes) was.1,
-      seen-comes g.D.Shelf.told g.D.Shelf.faults g.W.Actor.between g.met.W.Actor.rows g.W.Actor.meanwhile c.args.way.txn.0 low
-          (g.W.Actor.own c.args.actor.now) (g.W.Actor.own c.see.new.actor) before now c.args.way c.args.tree.now c.in-Ok-Means.meaning
-          (goes-said c.in-Ok-Means.field-0-is c.in-Ok-Means.ensures.goes),
     )
+
+pub end_as-requires-clause-comes : goal.end_as-requires-clause-comes
+end_as-requires-clause-comes g c =
+    let before = g.W.Actor.house c.args.actor.now in
+    let now = g.W.Actor.house c.see.new.actor in
+    seen-comes g.D.Shelf.told g.D.Shelf.faults g.W.Actor.between g.met.W.Actor.rows g.W.Actor.meanwhile c.args.way.txn.0 (faults_in g.D.Shelf.faults before)
+    (g.W.Actor.own c.args.actor.now) (g.W.Actor.own c.see.new.actor) before now c.args.way c.args.tree.now c.in-Ok-Means.meaning
+    (goes-said c.in-Ok-Means.field-0-is c.in-Ok-Means.ensures.goes)
 
 pub returns-in-Ok-Means-clause-goes : goal.returns-in-Ok-Means-clause-goes
 returns-in-Ok-Means-clause-goes g c =

@@ -1,13 +1,14 @@
 use Rattle.std.proofs.Common.{sym, subst, Ok, arith}
 use Rattle.hv_logic.specs.declared.meaning.Meaning.TheVariants.{Change}
-use Rattle.hv_acts.specs.Told.{trail_in}
-use Rattle.hv_acts.specs.declared.giving.Given.{Given}
+use Rattle.hv_table_reader.specs.hv_acts.specs.Told.{trail_in}
+use Rattle.hv_table_reader.specs.hv_acts.specs.declared.giving.Given.{Given}
 use Rattle.hv_steps.specs.Going.{faults_in, AddsOwn}
 use Rattle.hv_steps.specs.declared.reply.Prepared.{Prepared}
 use Rattle.hv_steps.specs.Phases.{CanConcludeIn}
 use Rattle.hv_steps.specs.Preparing.{given_entries, IsGivenSo, IsFaultOf}
 use Rattle.hv_steps.proofs.Joining.{opened-lasts, on-way-opened, adds-front}
 use Rattle.hv_steps.proofs.Parts.{given-prepares, full-prepares, broken-prepares, ends-can}
+use Rattle.hv_actor.specs.Acting.{known}
 use Rattle.hv_steps.proofs.preparing.change_rows.Goals as goal
 
 pub put_rows-requires-clause-was : goal.put_rows-requires-clause-was
@@ -50,8 +51,9 @@ returns-in-Ok-Id-clause-goes g c =
     let e = g.W.Actor.house c.put_rows.new.actor in
     given-prepares g.D.Shelf.told g.D.Shelf.faults g.W.Actor.between g.met.W.Actor.rows g.W.Actor.meanwhile c.args.way.txn.0 (faults_in g.D.Shelf.faults a) (faults_in g.D.Shelf.faults b)
     (g.W.Actor.own c.args.actor.now) (g.W.Actor.own c.take_id.new.actor) (g.W.Actor.own c.put_rows.new.actor) a b e c.args.change.info c.args.change.effect c.in-Ok-Id.write
-    c.put_rows.result c.in-Ok-Id.ensures.adds.count c.requires.some
-    (subst (λ (x : Given). AddsOwn g.D.Shelf.faults g.W.Actor.between (g.W.Actor.own c.args.actor.now) (g.W.Actor.own c.take_id.new.actor) a b
+    c.put_rows.result c.in-Ok-Id.ensures.adds.later.count c.requires.some
+    (subst (λ (x : Given). AddsOwn g.D.Shelf.faults g.W.Actor.between c.args.way.txn.0 (known (g.W.Actor.own c.args.actor.now) a)
+    (known (g.W.Actor.own c.take_id.new.actor) b)
     (given_entries c.args.way.txn.0 c.args.change.info.table (Ok x))) c.in-Ok-Id.field-0-is c.in-Ok-Id.ensures.adds)
     c.put_rows.ensures.goes
 
@@ -62,7 +64,8 @@ returns-in-Ok-Aborted-clause-goes g c =
     let given = subst (λ (x : Given). IsGivenSo g.D.Shelf.told b c.args.way.txn c.args.change.info c.args.change.effect x) c.in-Ok-Aborted.field-0-is c.in-Ok-Aborted.ensures.given in
     full-prepares g.D.Shelf.told g.D.Shelf.faults g.W.Actor.between g.met.W.Actor.rows g.W.Actor.meanwhile c.args.way.txn.0 (faults_in g.D.Shelf.faults a)
     (g.W.Actor.own c.args.actor.now) (g.W.Actor.own c.take_id.new.actor) a b c.args.change.info c.args.change.effect c.in-Ok-Aborted.aborted c.ended_by.result
-    (subst (λ (x : Given). AddsOwn g.D.Shelf.faults g.W.Actor.between (g.W.Actor.own c.args.actor.now) (g.W.Actor.own c.take_id.new.actor) a b
+    (subst (λ (x : Given). AddsOwn g.D.Shelf.faults g.W.Actor.between c.args.way.txn.0 (known (g.W.Actor.own c.args.actor.now) a)
+    (known (g.W.Actor.own c.take_id.new.actor) b)
     (given_entries c.args.way.txn.0 c.args.change.info.table (Ok x))) c.in-Ok-Aborted.field-0-is c.in-Ok-Aborted.ensures.adds)
     c.in-Ok-Aborted.ensures.running given.0 given.1 c.ended_by.ensures
 
@@ -78,7 +81,7 @@ returns-in-Err-clause-goes g c =
     broken-prepares g.D.Shelf.told g.D.Shelf.faults g.W.Actor.between g.met.W.Actor.rows g.W.Actor.meanwhile c.args.way.txn.0 (faults_in g.D.Shelf.faults a) (faults_in g.D.Shelf.faults a)
     (g.W.Actor.own c.args.actor.now) (g.W.Actor.own c.take_id.new.actor) (g.W.Actor.own c.break_off.new.actor) a b e (Change c.args.change.info c.args.change.effect) c.in-Err.why
     c.break_off.result (omega arith) c.in-Err.ensures.adds c.in-Err.ensures.why
-    (c.break_off.ensures.broken (faults_in g.D.Shelf.faults a) c.in-Err.ensures.adds.count (c.in-Err.ensures.refusal (faults_in g.D.Shelf.faults a)))
+    (c.break_off.ensures.broken (faults_in g.D.Shelf.faults a) c.in-Err.ensures.adds.later.count (c.in-Err.ensures.refusal (faults_in g.D.Shelf.faults a)))
 
 pub returns-in-Err-clause-can : goal.returns-in-Err-clause-can
 returns-in-Err-clause-can g c =
@@ -87,4 +90,4 @@ returns-in-Err-clause-can g c =
     let e = g.W.Actor.house c.break_off.new.actor in
     ends-can g.D.Shelf.told g.D.Shelf.faults g.W.Actor.between g.met.W.Actor.rows g.W.Actor.meanwhile c.args.way.txn.0 (faults_in g.D.Shelf.faults a)
     (g.W.Actor.own c.take_id.new.actor) (g.W.Actor.own c.break_off.new.actor) b e c.args.way (IsFaultOf c.in-Err.why) c.break_off.result
-    (c.break_off.ensures.broken (faults_in g.D.Shelf.faults a) c.in-Err.ensures.adds.count (c.in-Err.ensures.refusal (faults_in g.D.Shelf.faults a)))
+    (c.break_off.ensures.broken (faults_in g.D.Shelf.faults a) c.in-Err.ensures.adds.later.count (c.in-Err.ensures.refusal (faults_in g.D.Shelf.faults a)))

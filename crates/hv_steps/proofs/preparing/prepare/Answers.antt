@@ -5,14 +5,16 @@ use Rattle.hv_history.specs.Answers.{listing, ok_line}
 use Rattle.hv_logic.specs.declared.meaning.Meaning.{Meaning}
 use Rattle.hv_logic.specs.declared.meaning.Meaning.TheVariants as meaning
 use Rattle.hv_effect.specs.Touches.{touches_in}
-use Rattle.hv_acts.specs.Told.{trail_in}
+use Rattle.hv_table_reader.specs.hv_acts.specs.Told.{trail_in}
+use Rattle.hv_table_reader.specs.hv_acts.specs.Passing.{HasAskedAll}
 use Rattle.hv_steps.specs.declared.ready.End.TheVariants as end
 use Rattle.hv_steps.proofs.Shorts.{short_refused, short_limit, short_many, short_twice}
 use Rattle.hv_steps.specs.Going.{faults_in, Goes}
 use Rattle.hv_steps.specs.Phases.{Prepares}
 use Rattle.hv_steps.proofs.Joining.{on-way-opened}
-use Rattle.hv_steps.proofs.Ids.{comes-means, comes-change, comes-short}
+use Rattle.hv_steps.proofs.Ids.{comes-means, comes-asked, comes-change, comes-short}
 use Rattle.hv_steps.proofs.Parts.{idle-prepares, idle-concludes, meant-prepares, ends-can, made-prepares, made-can, idle-can, make-can, drop-can}
+use Rattle.hv_actor.specs.Acting.{among, known}
 use Rattle.hv_steps.proofs.preparing.prepare.Goals as goal
 
 pub made_ready-requires-clause-was : goal.made_ready-requires-clause-was
@@ -37,7 +39,7 @@ returns-in-Listing-clause-can g c =
     let own' = g.W.Actor.own c.made_ready.new.actor in
     let low = faults_in g.D.Shelf.faults a in
     idle-concludes g.D.Shelf.told g.D.Shelf.faults g.W.Actor.between g.met.W.Actor.rows g.W.Actor.meanwhile c.args.way.txn.0 low own own' a b c.args.way c.nothing.result (listing c.as_slice.result.now c.as_slice-in-Listing.result.now) c.made_ready.result c.nothing.ensures
-    (idle-can g.D.Shelf.told a c.args.way (meaning.Listing c.in-Listing.names c.in-Listing.rows) (listing c.as_slice.result.now c.as_slice-in-Listing.result.now) refl (λ i. listing (c.as_slice.ensures i) (c.as_slice-in-Listing.ensures i)) (λ is. comes-means g.D.Shelf.told a c.requires.was.0 c.args.way c.requires.was.1 c.args.meaning (meaning.Listing c.in-Listing.names c.in-Listing.rows) c.requires.was.2 c.requires.was.3 (sym c.meaning.view_is ∙ c.in-Listing.is) is))
+    (idle-can g.D.Shelf.told a c.args.way (meaning.Listing c.in-Listing.names c.in-Listing.rows) (listing c.as_slice.result.now c.as_slice-in-Listing.result.now) refl (λ i. listing (c.as_slice.ensures i) (c.as_slice-in-Listing.ensures i)) (λ is. (comes-means g.D.Shelf.told a c.requires.was.0 c.args.way c.requires.was.1 c.args.meaning (meaning.Listing c.in-Listing.names c.in-Listing.rows) c.requires.was.2 c.requires.was.3 (sym c.meaning.view_is ∙ c.in-Listing.is) is, tt)))
     (c.made_ready.ensures.goes (listing c.as_slice.result.now c.as_slice-in-Listing.result.now) c.listing-text.ensures)
 
 pub prepare_change-requires-clause-comes : goal.prepare_change-requires-clause-comes
@@ -54,7 +56,8 @@ returns-in-Change-clause-goes g c =
     let own = g.W.Actor.own c.args.actor.now in
     let own' = g.W.Actor.own c.prepare_change.new.actor in
     let low = faults_in g.D.Shelf.faults a in
-    subst (λ (m : Meaning). Goes g.D.Shelf.told g.D.Shelf.faults g.W.Actor.between g.W.Actor.meanwhile low c.args.way.txn.0 own own' a b (Prepares c.args.way.txn.0 b m) c.prepare_change.result)
+    subst (λ (m : Meaning). Goes (among g.D.Shelf.told g.D.Shelf.faults g.W.Actor.between g.W.Actor.meanwhile) low c.args.way.txn.0 (known own a) (known own' b)
+    (Prepares c.args.way.txn.0 b m) c.prepare_change.result)
     (sym (sym c.meaning.view_is ∙ c.in-Change.is)) c.prepare_change.ensures.goes
 
 pub made_ready-requires-in-Make-clause-was : goal.made_ready-requires-in-Make-clause-was
@@ -68,7 +71,8 @@ returns-in-Make-clause-goes g c =
     let own = g.W.Actor.own c.args.actor.now in
     let own' = g.W.Actor.own c.made_ready-in-Make.new.actor in
     let low = faults_in g.D.Shelf.faults a in
-    subst (λ (m : Meaning). Goes g.D.Shelf.told g.D.Shelf.faults g.W.Actor.between g.W.Actor.meanwhile low c.args.way.txn.0 own own' a b (Prepares c.args.way.txn.0 b m) c.made_ready-in-Make.result)
+    subst (λ (m : Meaning). Goes (among g.D.Shelf.told g.D.Shelf.faults g.W.Actor.between g.W.Actor.meanwhile) low c.args.way.txn.0 (known own a) (known own' b)
+    (Prepares c.args.way.txn.0 b m) c.made_ready-in-Make.result)
     (sym (sym c.meaning.view_is ∙ c.in-Make.is))
     (made-prepares g.D.Shelf.told g.D.Shelf.faults g.W.Actor.between g.met.W.Actor.rows g.W.Actor.meanwhile c.args.way.txn.0 low own own' a b (meaning.Make c.in-Make.field-0) end.Create ok_line c.made_ready-in-Make.result (λ ready is. (refl, is)) (c.made_ready-in-Make.ensures.goes ok_line c.ok_line.ensures))
 
@@ -94,7 +98,8 @@ returns-in-Unmake-clause-goes g c =
     let own = g.W.Actor.own c.args.actor.now in
     let own' = g.W.Actor.own c.made_ready-in-Unmake.new.actor in
     let low = faults_in g.D.Shelf.faults a in
-    subst (λ (m : Meaning). Goes g.D.Shelf.told g.D.Shelf.faults g.W.Actor.between g.W.Actor.meanwhile low c.args.way.txn.0 own own' a b (Prepares c.args.way.txn.0 b m) c.made_ready-in-Unmake.result)
+    subst (λ (m : Meaning). Goes (among g.D.Shelf.told g.D.Shelf.faults g.W.Actor.between g.W.Actor.meanwhile) low c.args.way.txn.0 (known own a) (known own' b)
+    (Prepares c.args.way.txn.0 b m) c.made_ready-in-Unmake.result)
     (sym (sym c.meaning.view_is ∙ c.in-Unmake.is))
     (made-prepares g.D.Shelf.told g.D.Shelf.faults g.W.Actor.between g.met.W.Actor.rows g.W.Actor.meanwhile c.args.way.txn.0 low own own' a b (meaning.Unmake c.in-Unmake.table) (end.Drop c.in-Unmake.table) ok_line c.made_ready-in-Unmake.result (λ ready is. (refl, is)) (c.made_ready-in-Unmake.ensures.goes ok_line c.ok_line-in-Unmake.ensures))
 
@@ -253,5 +258,6 @@ returns-clause-can g c =
     let own' = g.W.Actor.own c.made_ready-in-Plain.new.actor in
     let low = faults_in g.D.Shelf.faults a in
     idle-concludes g.D.Shelf.told g.D.Shelf.faults g.W.Actor.between g.met.W.Actor.rows g.W.Actor.meanwhile c.args.way.txn.0 low own own' a b c.args.way c.nothing-in-Plain.result ok_line c.made_ready-in-Plain.result c.nothing-in-Plain.ensures
-    (idle-can g.D.Shelf.told a c.args.way meaning.Plain ok_line refl refl (λ is. comes-means g.D.Shelf.told a c.requires.was.0 c.args.way c.requires.was.1 c.args.meaning (meaning.Plain) c.requires.was.2 c.requires.was.3 (sym c.meaning.view_is ∙ c.in-Plain.is) is))
+    (idle-can g.D.Shelf.told a c.args.way meaning.Plain ok_line refl refl (comes-asked g.D.Shelf.told a c.requires.was.0 c.args.way c.requires.was.1 c.args.meaning (meaning.Plain) c.requires.was.2 c.requires.was.3 (sym c.meaning.view_is ∙ c.in-Plain.is)
+    (subst (HasAskedAll (trail_in a) c.args.way.txn c.args.way.place c.requires.was.1) (sym c.meaning.view_is ∙ c.in-Plain.is) c.requires.was.4)))
     (c.made_ready-in-Plain.ensures.goes ok_line c.ok_line-in-Plain.ensures)

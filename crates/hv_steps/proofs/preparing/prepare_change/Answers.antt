@@ -1,7 +1,7 @@
 use Rattle.std.proofs.Common.{[], inl, refl}
 use Rattle.hv_history.specs.Answers.{counts_line}
 use Rattle.hv_logic.specs.declared.meaning.Meaning.TheVariants.{Change}
-use Rattle.hv_acts.specs.Told.{trail_in}
+use Rattle.hv_table_reader.specs.hv_acts.specs.Told.{trail_in}
 use Rattle.hv_steps.specs.Ending.{idle_end}
 use Rattle.hv_steps.proofs.Touched.{touches-none}
 use Rattle.hv_steps.specs.Going.{faults_in}
@@ -33,7 +33,7 @@ returns-else-changes_rows-clause-can g c =
     (g.W.Actor.own c.args.actor.now) (g.W.Actor.own c.made_ready.new.actor) a b c.args.way idle_end (counts_line []) c.made_ready.result
     (idle-can g.D.Shelf.told a c.args.way (Change c.args.info c.args.effect) (counts_line [])
     (touches-none c.args.info c.args.effect (c.changes_rows.ensures.none c.if-changes_rows.false)) refl
-    (λ is. way-means (trail_in a) c.requires.comes.asking c.args.way c.requires.comes.said (Change c.args.info c.args.effect) c.requires.comes.was (c.requires.comes.truly is)))
+    (λ is. (way-means (trail_in a) c.requires.comes.asking c.args.way c.requires.comes.said (Change c.args.info c.args.effect) c.requires.comes.was (c.requires.comes.truly is), tt)))
     (made-goes g.D.Shelf.told g.D.Shelf.faults g.W.Actor.between g.met.W.Actor.rows g.W.Actor.meanwhile c.args.way.txn.0 (faults_in g.D.Shelf.faults a)
     (g.W.Actor.own c.args.actor.now) (g.W.Actor.own c.made_ready.new.actor) a b c.nothing.result (counts_line []) c.made_ready.result c.nothing.ensures
     (c.made_ready.ensures.goes (counts_line []) c.counts_line.ensures))

@@ -3,7 +3,7 @@ use Rattle.hv_history.specs.Answers.{counts_line}
 use Rattle.hv_history.specs.declared.entry.Cause.{Cause}
 use Rattle.hv_history.specs.declared.entry.Cause.TheVariants as cause
 use Rattle.hv_logic.specs.declared.meaning.Meaning.TheVariants.{Change}
-use Rattle.hv_acts.specs.Told.{trail_in}
+use Rattle.hv_table_reader.specs.hv_acts.specs.Told.{trail_in}
 use Rattle.hv_steps.specs.Going.{faults_in}
 use Rattle.hv_steps.proofs.Joining.{on-way-opened}
 use Rattle.hv_steps.proofs.Parts.{early-prepares, ends-can}

@@ -1,5 +1,5 @@
 use Rattle.std.proofs.Common.{sym, subst, arith}
-use Rattle.hv_acts.specs.Told.{trail_in}
+use Rattle.hv_table_reader.specs.hv_acts.specs.Told.{trail_in}
 use Rattle.hv_steps.specs.Going.{faults_in}
 use Rattle.hv_steps.specs.declared.reply.Prepared.{Prepared}
 use Rattle.hv_steps.specs.Phases.{CanConcludeIn}
@@ -44,7 +44,7 @@ returns-in-Err-clause-goes g c =
     broken-writes g.D.Shelf.told g.D.Shelf.faults g.W.Actor.between g.met.W.Actor.rows g.W.Actor.meanwhile c.args.way.txn.0 (faults_in g.D.Shelf.faults a) (faults_in g.D.Shelf.faults a)
     (g.W.Actor.own c.args.actor.now) (g.W.Actor.own c.put.new.actor) (g.W.Actor.own c.break_off.new.actor) a b e c.args.change.info c.args.change.effect c.args.write.0 c.in-Err.why
     c.break_off.result (omega arith) c.in-Err.ensures.adds
-    (c.break_off.ensures.broken (faults_in g.D.Shelf.faults a) c.in-Err.ensures.adds.count c.in-Err.ensures.refusal)
+    (c.break_off.ensures.broken (faults_in g.D.Shelf.faults a) c.in-Err.ensures.adds.later.count c.in-Err.ensures.refusal)
 
 pub returns-in-Err-clause-can : goal.returns-in-Err-clause-can
 returns-in-Err-clause-can g c =
@@ -53,4 +53,4 @@ returns-in-Err-clause-can g c =
     let e = g.W.Actor.house c.break_off.new.actor in
     ends-can g.D.Shelf.told g.D.Shelf.faults g.W.Actor.between g.met.W.Actor.rows g.W.Actor.meanwhile c.args.way.txn.0 (faults_in g.D.Shelf.faults a)
     (g.W.Actor.own c.put.new.actor) (g.W.Actor.own c.break_off.new.actor) b e c.args.way (IsFaultOf c.in-Err.why) c.break_off.result
-    (c.break_off.ensures.broken (faults_in g.D.Shelf.faults a) c.in-Err.ensures.adds.count c.in-Err.ensures.refusal)
+    (c.break_off.ensures.broken (faults_in g.D.Shelf.faults a) c.in-Err.ensures.adds.later.count c.in-Err.ensures.refusal)

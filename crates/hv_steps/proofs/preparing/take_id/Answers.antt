@@ -1,5 +1,5 @@
 use Rattle.hv_steps.proofs.IdActs.{can-give, give-adds, give-left, give-ends, given-so, left-open, refused-so}
-use Rattle.hv_acts.specs.Told.{trail_in}
+use Rattle.hv_table_reader.specs.hv_acts.specs.Told.{trail_in}
 use Rattle.hv_steps.proofs.preparing.take_id.Goals as goal
 
 pub hold-requires-clause-can : goal.hold-requires-clause-can

@@ -3,6 +3,8 @@ use Rattle.std.proofs.lemmas.List.{take_more, drop_more, take-append-drop}
 use Rattle.hv_route.specs.declared.files.OutFile.{OutFile}
 use Rattle.hv_table_rows.specs.Putting.{CanPut}
 use Rattle.hv_steps.proofs.Joining.{adds-more}
+use Rattle.hv_actor.specs.Acting.{known}
+use Rattle.hv_steps.specs.Preparing.{ArePutUpTo}
 use Rattle.hv_steps.proofs.FileActs.{PutsUpTo, puts-none, puts-more, due-still, one-among}
 use Rattle.hv_steps.proofs.putting.put_each.Goals as goal
 
@@ -45,8 +47,10 @@ loop-file-preserved g c =
     let file = c.file-item.result in
     let more : take (i + 1) files ≡ take i files ++ file ∷ [] = take_more files i file c.loop-file-test.true ∙ ap (λ f. take i files ++ f ∷ []) (sym c.file-item.is) in (
       c.put_next.ensures.keeps,
-      subst (λ (fs : List OutFile). PutsUpTo g.D.Shelf.faults g.W.Actor.between (g.W.Actor.own c.args.actor.now) (g.W.Actor.own c.put_next.new.actor)
-          (g.W.Actor.house c.args.actor.now) (g.W.Actor.house c.put_next.new.actor) c.args.table.0 c.args.write.0 fs c.put_next.new.places.items) (sym more)
+      subst (λ (fs : List OutFile). PutsUpTo g.D.Shelf.faults g.W.Actor.between c.args.txn.0
+          (known (g.W.Actor.own c.args.actor.now) (g.W.Actor.house c.args.actor.now))
+          (known (g.W.Actor.own c.put_next.new.actor) (g.W.Actor.house c.put_next.new.actor))
+          (ArePutUpTo c.args.table.0 c.args.write.0 fs c.put_next.new.places.items)) (sym more)
           (puts-more g.D.Shelf.told g.D.Shelf.faults g.W.Actor.between g.met.W.Actor.rows (g.W.Actor.own c.args.actor.now) (g.W.Actor.own c.loop-file.actor)
           (g.W.Actor.own c.put_next.new.actor) (g.W.Actor.house c.args.actor.now) (g.W.Actor.house c.loop-file.actor) (g.W.Actor.house c.put_next.new.actor)
           c.args.table.0 c.args.write.0 (take i files) file c.loop-file.places.items c.put_next.new.places.items c.loop-file.invariant.1 c.put_next.ensures.adds

@@ -2,7 +2,7 @@ use Rattle.std.proofs.Common.{Result, IfOk, IfErr, ◌≡◌, sym, subst}
 use Rattle.hv_shelf.specs.declared.place.Place.{Place}
 use Rattle.hv_stands.specs.Files.{place_of_file}
 use Rattle.hv_stands.specs.Laws.{HasFile}
-use Rattle.hv_acts.specs.declared.fault.ActFault.{ActFault}
+use Rattle.hv_table_reader.specs.hv_acts.specs.declared.fault.ActFault.{ActFault}
 use Rattle.hv_steps.specs.Going.{faults_in, IsOpenHouse}
 use Rattle.hv_steps.specs.Preparing.{IsFileDue, IsRefusal}
 use Rattle.hv_steps.proofs.Joining.{adds-none}

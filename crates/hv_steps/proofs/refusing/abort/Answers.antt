@@ -1,11 +1,13 @@
-use Rattle.std.proofs.Common.{List}
+use Rattle.std.proofs.Common.{ℕ, List}
 use Rattle.hv_trail.specs.declared.trail.TrailItem.{TrailItem}
-use Rattle.hv_acts.specs.Told.{trail_in}
-use Rattle.hv_acts.specs.Answers.{NoTest, EntryFits}
-use Rattle.hv_acts.proofs.Lasting.{mark-lasts, abort-lasts}
+use Rattle.hv_table_reader.specs.hv_acts.specs.Told.{trail_in}
+use Rattle.hv_table_reader.specs.hv_acts.specs.Answers.{NoTest, EntryFits}
+use Rattle.hv_table_reader.specs.hv_acts.proofs.Lasting.{mark-lasts, abort-lasts}
+use Rattle.hv_table_reader.specs.hv_acts.proofs.Aborts.{own-abort}
+use Rattle.hv_table_reader.specs.hv_acts.proofs.Mine.{entry-mine}
 use Rattle.hv_steps.specs.Ending.{aborting}
 use Rattle.hv_steps.proofs.Joining.{held-adds, act-left, act-risen, why-now, answers-name, answers-why, note-ends, ends-rise, reached-front, found-told}
-use Rattle.hv_steps.proofs.Aborts.{book-added, abort-replied}
+use Rattle.hv_steps.proofs.Aborts.{book-added, abort-replied, uncommitted-own}
 use Rattle.hv_steps.proofs.refusing.abort.Goals as goal
 
 pub hold-requires-clause-can : goal.hold-requires-clause-can
@@ -16,6 +18,7 @@ hold-requires-clause-can g c = λ house kept reached.
       mark-lasts (trail_in before) (trail_in house) front c.args.txn c.args.cause c.requires.marked,
       λ told. abort-lasts (trail_in before) (trail_in house) front c.args.txn c.args.cause
           (c.requires.due (found-told g.D.Shelf.told g.D.Shelf.faults g.W.Actor.meanwhile g.met.W.Actor.goes_on before house house reached told)),
+      uncommitted-own c.args.cause c.requires.uncommitted,
     )
 
 pub returns-clause-adds : goal.returns-clause-adds
@@ -26,6 +29,8 @@ returns-clause-adds g c =
     (ends-rise c.hold.result _ _ (note-ends (aborting c.args.txn.0 c.args.cause) c.hold.result c.hold.ensures.held.step.may))
     (act-risen g.D.Shelf.told g.D.Shelf.faults g.W.Actor.meanwhile g.met.W.Actor.goes_on (g.W.Actor.house c.args.actor.now) (g.W.Actor.house c.hold.new.self)
     _ c.hold.result _ c.args.txn.0 c.hold.ensures.held c.hold.ensures.held.does_it.1)
+    (entry-mine c.args.txn.0 (λ (place : ℕ). aborting c.args.txn.0 c.args.cause)
+    (λ place. own-abort c.args.txn c.args.cause (uncommitted-own c.args.cause c.requires.uncommitted)) c.hold.result)
 
 pub returns-clause-replied : goal.returns-clause-replied
 returns-clause-replied g c =

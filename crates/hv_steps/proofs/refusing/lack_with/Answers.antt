@@ -1,11 +1,11 @@
 use Rattle.std.proofs.Common.{inr, refl}
 use Rattle.hv_history.specs.declared.entry.Cause.TheVariants.{Memory}
-use Rattle.hv_acts.specs.Told.{trail_in}
+use Rattle.hv_table_reader.specs.hv_acts.specs.Told.{trail_in}
 use Rattle.hv_steps.proofs.Shorts.{short_memory}
 use Rattle.hv_steps.specs.Phases.{NoCause}
 use Rattle.hv_steps.proofs.Joining.{opened-lasts, adds-front}
 use Rattle.hv_steps.proofs.Ends.{never-unfit}
-use Rattle.hv_steps.proofs.Aborts.{aborted-goes, refused-goes}
+use Rattle.hv_steps.proofs.Aborts.{aborted-goes, behind-goes}
 use Rattle.hv_steps.proofs.refusing.lack_with.Goals as goal
 
 pub abort-requires-clause-small : goal.abort-requires-clause-small
@@ -24,16 +24,10 @@ pub returns-in-Ok-clause-goes : goal.returns-in-Ok-clause-goes
 returns-in-Ok-clause-goes g c = λ low.
     aborted-goes g.D.Shelf.told g.D.Shelf.faults g.W.Actor.between g.met.W.Actor.rows g.W.Actor.meanwhile low c.args.txn.0 (g.W.Actor.own c.args.actor.now)
     (g.W.Actor.own c.abort.new.actor) (g.W.Actor.house c.args.actor.now) (g.W.Actor.house c.abort.new.actor) NoCause Memory c.aborted.result _ c.in-Ok.at
-    c.aborted.ensures c.requires.text c.in-Ok.ensures.adds c.in-Ok.ensures.left tt (inr refl) c.in-Ok.ensures.replied
+    c.aborted.ensures c.requires.text tt c.in-Ok.ensures.adds c.in-Ok.ensures.left tt (inr refl) c.in-Ok.ensures.replied
 
 pub returns-in-Err-clause-goes : goal.returns-in-Err-clause-goes
 returns-in-Err-clause-goes g c = λ low.
-    let before = g.W.Actor.house c.args.actor.now in
-    let now = g.W.Actor.house c.abort.new.actor in
-    refused-goes g.D.Shelf.told g.D.Shelf.faults g.W.Actor.between g.met.W.Actor.rows g.W.Actor.meanwhile low c.args.txn.0 (g.W.Actor.own c.args.actor.now)
-    (g.W.Actor.own c.abort.new.actor) before now NoCause c.in-Err.why c.unaborted.result c.unaborted.ensures.same c.in-Err.ensures.adds c.in-Err.ensures.left
-    c.in-Err.ensures.ends
-    (never-unfit (trail_in now) c.args.txn c.in-Err.why
-    (opened-lasts c.args.txn.0 (trail_in before) (trail_in now)
-    (adds-front g.D.Shelf.faults g.W.Actor.between g.met.W.Actor.rows (g.W.Actor.own c.args.actor.now) (g.W.Actor.own c.abort.new.actor) before now _ c.in-Err.ensures.adds)
-    c.requires.was) c.in-Err.ensures.why)
+    behind-goes g.D.Shelf.told g.D.Shelf.faults g.W.Actor.between g.met.W.Actor.rows g.W.Actor.meanwhile low c.args.txn.0 (g.W.Actor.own c.args.actor.now)
+    (g.W.Actor.own c.abort.new.actor) (g.W.Actor.own c.unaborted.new.actor) (g.W.Actor.house c.args.actor.now) (g.W.Actor.house c.abort.new.actor)
+    (g.W.Actor.house c.unaborted.new.actor) NoCause c.unaborted.result c.in-Err.ensures.adds (c.unaborted.ensures.goes low)

@@ -1,9 +1,9 @@
 use Rattle.std.proofs.Common.{inl, inr, refl, subst}
-use Rattle.hv_acts.specs.hv_telling.specs.hv_house.specs.declared.fault.HouseFault.TheVariants as fault
-use Rattle.hv_acts.specs.hv_telling.specs.hv_house.specs.declared.fault.RowFault.TheVariants as row_fault
+use Rattle.hv_table_reader.specs.hv_acts.specs.hv_telling.specs.hv_house.specs.declared.fault.HouseFault.TheVariants as fault
+use Rattle.hv_table_reader.specs.declared.fault.RowFault.TheVariants as row_fault
 use Rattle.hv_history.specs.declared.entry.Cause.TheVariants as cause
-use Rattle.hv_acts.specs.Going.{faults_in}
-use Rattle.hv_steps.specs.Tables.{RisesTo}
+use Rattle.hv_table_reader.specs.hv_acts.specs.Going.{faults_in}
+use Rattle.hv_table_reader.specs.Tables.{RisesTo}
 use Rattle.hv_steps.specs.Seeing.{IsUnseen, EndsUnseen}
 use Rattle.hv_steps.proofs.Unseen.{small-read, small-memory, goes-unseen, goes-shut}
 use Rattle.hv_steps.proofs.seeing.end_halted.Goals as goal

@@ -1,7 +1,7 @@
 use Rattle.std.proofs.Common.{inr, subst}
 use Rattle.hv_history.specs.declared.entry.Cause.TheVariants as cause
-use Rattle.hv_acts.specs.Going.{faults_in}
-use Rattle.hv_steps.specs.Tables.{RisesTo}
+use Rattle.hv_table_reader.specs.hv_acts.specs.Going.{faults_in}
+use Rattle.hv_table_reader.specs.Tables.{RisesTo}
 use Rattle.hv_steps.specs.Seeing.{IsUnseen}
 use Rattle.hv_steps.proofs.Unseen.{small-damaged, goes-unseen}
 use Rattle.hv_steps.proofs.seeing.end_unseen.Goals as goal

@@ -1,5 +1,5 @@
 use Rattle.std.proofs.Common.{sym, ◌∙◌}
-use Rattle.hv_acts.specs.hv_telling.specs.Telling.{IsToldHouse}
+use Rattle.hv_table_reader.specs.hv_acts.specs.hv_telling.specs.Telling.{IsToldHouse}
 use Rattle.hv_steps.specs.Seeing.{tables_then}
 use Rattle.hv_steps.proofs.Joining.{adds-none}
 use Rattle.hv_steps.proofs.Looks.{looks-none, looks-lack}

@@ -1,7 +1,7 @@
 use Rattle.hv_steps.proofs.Joining.{adds-front, opened-lasts, on-way-opened}
 use Rattle.hv_steps.proofs.Unseen.{way-place, goes-meaning, goes-ended}
 use Rattle.hv_steps.proofs.seeing.see.Goals as goal
-use Rattle.hv_acts.specs.Told.{trail_in}
+use Rattle.hv_table_reader.specs.hv_acts.specs.Told.{trail_in}
 use Rattle.std.proofs.Common.{[]}
 
 pub see_meaning-requires-clause-place : goal.see_meaning-requires-clause-place

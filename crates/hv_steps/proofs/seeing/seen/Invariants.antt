@@ -1,8 +1,13 @@
-use Rattle.hv_steps.specs.Seeing.{SeesUpTo}
+use Rattle.std.proofs.Common.{take}
+use Rattle.hv_actor.specs.Acting.{known}
+use Rattle.hv_table_reader.specs.hv_acts.specs.hv_telling.specs.Telling.{IsToldHouse}
+use Rattle.hv_steps.specs.Seeing.{tables_then, AreSeenAs, SeesUpTo}
 use Rattle.hv_steps.proofs.seeing.seen.Given as goal
 
 abbrev pub invariant-loop-i : goal.invariant-loop-i
 invariant-loop-i g l =
     g.W.Actor.keeps l.actor
-    × SeesUpTo g.D.Shelf.told g.D.Shelf.faults g.W.Actor.between (g.W.Actor.own l.fn.actor) (g.W.Actor.own l.actor) (g.W.Actor.house l.fn.actor) (g.W.Actor.house l.actor)
-    l.fn.way.place l.reads l.names.items l.i l.seen.items
+    × SeesUpTo g.D.Shelf.faults g.W.Actor.between l.fn.way.txn.0
+    (known (g.W.Actor.own l.fn.actor) (g.W.Actor.house l.fn.actor)) (known (g.W.Actor.own l.actor) (g.W.Actor.house l.actor))
+    (AreSeenAs (IsToldHouse g.D.Shelf.told (g.W.Actor.house l.fn.actor).house) l.reads (tables_then (g.W.Actor.house l.fn.actor) l.fn.way.place)
+    (take l.i l.names.items) l.seen.items)

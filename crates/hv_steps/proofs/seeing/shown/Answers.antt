@@ -2,8 +2,8 @@ use Rattle.std.proofs.Common.{◌≡◌, Option, ap, subst}
 use Rattle.std.specs.Prelude.{IfOk}
 use Rattle.hv_ast.specs.declared.statement.Show.{Show}
 use Rattle.hv_history.specs.Shown.{listed_by}
-use Rattle.hv_acts.specs.Told.{trail_in}
-use Rattle.hv_acts.specs.Reading.{state_then}
+use Rattle.hv_table_reader.specs.hv_acts.specs.Told.{trail_in}
+use Rattle.hv_table_reader.specs.hv_acts.specs.Reading.{state_then}
 use Rattle.hv_steps.proofs.Looks.{looks-none, looks-house}
 use Rattle.hv_steps.proofs.seeing.shown.Goals as goal
 

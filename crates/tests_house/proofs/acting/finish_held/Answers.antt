@@ -11,7 +11,7 @@ finish_one-requires-clause-can g c =
 
 pub returns-in-Ok-clause-can : goal.returns-in-Ok-clause-can
 returns-in-Ok-clause-can g c =
-    anyway _ c.say_done.result (record {
+    anyway _ c.say_reply.result (record {
       running = c.in-Ok.ensures.running;
       hold = c.requires.can.hold;
       held = subst (λ (held : Option Paused). IfSome held (CanFinish g.D.Shelf.told (g.W.Actor.house c.finish_one.new.actor))) (sym c.take.ensures.after) tt;

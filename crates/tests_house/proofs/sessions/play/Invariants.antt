@@ -2,4 +2,4 @@ use Rattle.tests_house.specs.Keeping.{IsAtHand}
 use Rattle.tests_house.proofs.sessions.play.Given as goal
 
 abbrev pub invariant-loop-line : goal.invariant-loop-line
-invariant-loop-line g l = IsAtHand g.D.Shelf.told l.desk l.house
+invariant-loop-line g l = IsAtHand g.D.Shelf.told g.D.Shelf.hard l.desk l.house

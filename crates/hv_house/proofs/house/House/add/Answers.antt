@@ -3,6 +3,7 @@ use Rattle.hv_trail.specs.declared.trail.TrailItem.TheVariants.{Noted}
 use Rattle.hv_trail.specs.Steps.{Note}
 use Rattle.hv_house.proofs.Journals.{noted}
 use Rattle.hv_house.proofs.Steps.{noting-one, step-done, step-halted, same-trail}
+use Rattle.hv_house.proofs.Hards.{behind_step}
 use Rattle.hv_house.proofs.house.House.add.Goals as goal
 
 pub returns-in_ok-push-in-Ok-clause-noted : goal.returns-in_ok-push-in-Ok-clause-noted
@@ -45,3 +46,6 @@ returns-in-Err-clause-step g c =
 
 pub push-requires-clause-place : goal.push-requires-clause-place
 push-requires-clause-place g c = c.in-Ok.ensures.places
+
+pub returns-in_ok-push-in-Ok-clause-hard : goal.returns-in_ok-push-in-Ok-clause-hard
+returns-in_ok-push-in-Ok-clause-hard g c = behind_step _ _ _ _ _ c.push.ensures.closed c.in-Ok.ensures.hard

@@ -5,6 +5,7 @@ use Rattle.hv_trail.specs.declared.trail.TrailItem.TheVariants.{Noted}
 use Rattle.hv_trail.specs.Kept.{trail_of}
 use Rattle.hv_house.proofs.Journals.{noted}
 use Rattle.hv_house.proofs.Steps.{same-trail}
+use Rattle.hv_house.proofs.Hards.{behind_step}
 use Rattle.hv_house.proofs.Lengths.{short_start}
 use Rattle.hv_trail.specs.Spare.{HasPlace}
 use Rattle.hv_trail.proofs.SpareLaws.{first-place, second-place}
@@ -47,3 +48,6 @@ push-requires-in-Ok-clause-place g c =
     subst (λ b. HasPlace b c.push.new.self.spare start) (sym c.in_ok-push-in-Ok.ensures.ok)
     (second-place c.write_with_start.new.self.trail.entries c.args.entry start c.write_with_start.new.self.trail.spare c.push.new.self.spare
     c.in-Ok.ensures.places c.push.ensures.spare)
+
+pub returns-in_ok-push-in-Ok-2-clause-hard : goal.returns-in_ok-push-in-Ok-2-clause-hard
+returns-in_ok-push-in-Ok-2-clause-hard g c = behind_step _ _ _ _ _ (c.push-in-Ok.ensures.closed ∙ c.push.ensures.closed) c.in-Ok.ensures.hard

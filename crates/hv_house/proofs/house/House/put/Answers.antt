@@ -1,10 +1,12 @@
-use Rattle.std.proofs.Common.{refl}
+use Rattle.std.proofs.Common.{refl, ap, IsErrOf}
+use Rattle.hv_shelf.specs.declared.fault.ShelfFault.TheVariants as shelf
 use Rattle.hv_table_rows.specs.Putting.{bytes_of}
 use Rattle.hv_trail.specs.declared.trail.Reader.TheVariants.{Txn}
 use Rattle.hv_trail.specs.Steps.{Put}
 use Rattle.hv_house.specs.Steps.{outcome_of}
 use Rattle.hv_house.proofs.Reading.{gains-behind}
 use Rattle.hv_house.proofs.Putting.{put-ends, idle-ends}
+use Rattle.hv_house.proofs.Hards.{soft_step, left_step}
 use Rattle.hv_house.proofs.house.House.put.Goals as goal
 
 pub returns-in-Ok-clause-put : goal.returns-in-Ok-clause-put
@@ -36,3 +38,11 @@ returns-in-Err-clause-put g c =
       limits = c.args.self.now.limits;
     })
     c.requires.1.0 refl refl refl c.reserve_mark.ensures.entries c.reserve_mark.ensures.marks c.reserve_mark.ensures.opened refl c.reserve_mark.ensures.closed
+
+pub returns-in-Ok-clause-hard : goal.returns-in-Ok-clause-hard
+returns-in-Ok-clause-hard g c =
+    soft_step (IsErrOf c.put_file-done.result shelf.Failed) (IsErrOf c.put_file-done.result shelf.Failed) _ _ _ _ _ _ _ _ (λ failed. failed) c.reserve_mark.ensures.closed
+    (ap g.D.Shelf.hard c.keep_put.ensures.shelf) c.put_file-done.ensures.hard c.keep_put.ensures.last
+
+pub returns-in-Err-clause-hard : goal.returns-in-Err-clause-hard
+returns-in-Err-clause-hard g c = left_step (g.D.Shelf.hard c.args.self.now.shelf) _ _ c.reserve_mark.ensures.closed

@@ -1,0 +1,10 @@
+pub mod Acts
+pub mod Counts
+pub mod Files
+pub mod Holds
+pub mod Moments
+pub mod Seen
+pub mod Sheets
+pub mod Stood
+pub mod TableLooks
+pub mod TableRows

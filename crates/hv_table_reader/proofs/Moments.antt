@@ -1,0 +1,204 @@
+-- Moments of a house that others act on: what was found, counted and listed then is so of its longer book too.
+use Rattle.std.proofs.Common.{◌≡◌, ◌≤◌, ℕ, Option, Some, None, List, ◌++◌, length, take, option_map, sym, ◌∙◌, ap, subst, append_assoc, arith}
+use Rattle.std.specs.Prelude.{IsSomeAnd}
+use Rattle.std.specs.Global.{Vec}
+use Rattle.std.specs.FinMap as tree
+use Rattle.std.proofs.lemmas.List.{take-append-le}
+use Rattle.hv_base.specs.Told.{Tells}
+use Rattle.hv_base.specs.declared.ids.TableId.{TableId}
+use Rattle.hv_shelf.specs.declared.place.Place.{Place}
+use Rattle.hv_shelf.specs.Disk.{Store}
+use Rattle.hv_logic.specs.declared.catalog.TableInfo.{TableInfo}
+use Rattle.hv_choosing.specs.declared.listing.DirFile.{DirFile}
+use Rattle.hv_law_dues.specs.hv_counts.specs.declared.due.Due.{Due}
+use Rattle.hv_law_dues.specs.hv_counts.specs.Counts.{dues_in}
+use Rattle.hv_history.specs.declared.entry.Entry.{Entry}
+use Rattle.hv_history.specs.State.{State, state_of}
+use Rattle.hv_history.specs.Lasting.{IsFront}
+use Rattle.hv_stands.specs.Reading.{table_of_name}
+use Rattle.hv_trail.specs.declared.trail.TrailItem.{TrailItem}
+use Rattle.hv_trail.specs.Trail.{book_of}
+use Rattle.hv_trail.specs.Steps.{HouseSeen, Call, Outcome, gains, Step}
+use Rattle.hv_trail.proofs.LastingLaws.{book-append}
+use Rattle.hv_actor.specs.Acting.{IsLater, known}
+use Rattle.hv_acts.specs.hv_telling.specs.hv_house.specs.declared.listing.Listing.{Listing}
+use Rattle.hv_acts.specs.hv_telling.specs.hv_house.specs.House.{IsFaithful}
+use Rattle.hv_acts.specs.hv_telling.specs.hv_house.specs.Listing.{info_in, AreTaken}
+use Rattle.hv_acts.specs.hv_telling.specs.Telling.{IsTold, IsToldHouse}
+use Rattle.hv_acts.specs.hv_telling.proofs.Told.{whole-shown, house-book}
+use Rattle.hv_acts.specs.declared.told.ToldHouse.{ToldHouse}
+use Rattle.hv_acts.specs.Told.{IsWholeOrClosed, seen_in, trail_in, book_in}
+use Rattle.hv_acts.specs.Counting.{AreAsMany}
+use Rattle.hv_acts.specs.Going.{IsOpenHouse, AddsOwn}
+use Rattle.hv_acts.specs.Reading.{HasPlace, HasFittingBook, HasListed, HasGot, HasMissed, ReadsOnTold, IsGotStill, AllGotStill, state_then, info_then, IsThere}
+use Rattle.hv_acts.proofs.Readings.{then-same, found-there, all-got}
+use Rattle.hv_table_reader.specs.Steady.{GoesBehind, IsSteady, AreSteady, IsMoment, HasMoment, IsNamedThen, AreListedSteady, IsListing, bytes_got}
+
+-- ---- fronts
+
+pub front-more : {A : Type 0} (a b c : List A) → IsFront a b → IsFront b c → IsFront a c
+front-more a b c f g = record { more = f.more ++ g.more; is = g.is ∙ ap (λ (xs : List _). xs ++ g.more) f.is ∙ append_assoc a f.more g.more }
+
+pub book-front : (before now : List TrailItem) → IsFront before now → IsFront (book_of before) (book_of now)
+book-front before now front = record { more = book_of front.more; is = ap book_of front.is ∙ book-append before front.more }
+
+-- the entries before a place of a book are those of a longer one
+pub take-front : (book now : List Entry) (place : ℕ) → IsFront book now → place ≤ length book → take place now ≡ take place book
+take-front book now place front has = ap (take place) front.is ∙ take-append-le place book front.more has
+
+-- ---- a house that goes on
+
+pub behind-more : {D : Type 0} (a b c : HouseSeen D) → GoesBehind a b → GoesBehind b c → GoesBehind a c
+behind-more a b c f g = record { start = g.start ∙ f.start; front = front-more a.trail b.trail c.trail f.front g.front }
+
+-- others acted
+pub behind-later : {D : Type 0} (faults : D → ℕ) (a b : HouseSeen D) → IsLater faults a b → GoesBehind a b
+behind-later faults a b later = record { start = later.rest.start; front = record { more = later.added; is = later.trail } }
+
+-- a call was made
+pub behind-step : {D : Type 0} (told : D → Option Store) (faults : D → ℕ) (call : Call) (outcome : Outcome) (a b : HouseSeen D) → Step told faults call outcome a b → GoesBehind a b
+behind-step told faults call outcome a b step = record { start = step.rest.start; front = record { more = gains call outcome; is = step.trail } }
+
+-- one's own acts were done, and others between
+pub behind-adds : {D : Type 0} {by : ℕ} (faults : D → ℕ) (between : List TrailItem → Type 0) (own own' : List ℕ) (a b : ToldHouse D) (added : List Entry)
+    → AddsOwn faults between by (known own a) (known own' b) added → GoesBehind (seen_in a) (seen_in b)
+behind-adds faults between own own' a b added adds = record { start = adds.later.rest.start; front = record { more = adds.went.added; is = adds.went.seen } }
+
+module _ {D : Type 0} (told : D → Option Store) where
+  -- it is told as it was
+  pub told-behind : (a b : ToldHouse D) → GoesBehind (seen_in a) (seen_in b) → IsToldHouse told a.house → IsToldHouse told b.house
+  told-behind a b behind is = subst (IsTold told) (sym behind.start) is
+
+  pub told-before : (a b : ToldHouse D) → GoesBehind (seen_in a) (seen_in b) → IsToldHouse told b.house → IsToldHouse told a.house
+  told-before a b behind is = subst (IsTold told) behind.start is
+
+  pub steady-on : (o : Option Store) (a b : HouseSeen D) (place : Place) → GoesBehind a b → IsSteady told o a place → IsSteady told o b place
+  steady-on o a b place behind steady = record {
+    got = λ now bytes later. steady.got now bytes (behind-more a b now behind later);
+    unmissed = λ now later. steady.unmissed now (behind-more a b now behind later);
+  }
+
+  -- of a store that isn't told nothing is said
+  pub none-steady : (before : HouseSeen D) (taken : List DirFile) → AreSteady told None before taken
+  none-steady before taken = λ file among. record { got = λ now bytes behind has. tt; unmissed = λ now behind has. tt }
+
+  pub all-steady-on : (o : Option Store) (a b : HouseSeen D) (taken : List DirFile) → GoesBehind a b → AreSteady told o a taken → AreSteady told o b taken
+  all-steady-on o a b taken behind steady = λ file among. steady-on o a b file.place behind (steady file among)
+
+  pub listed-on : (o : Option Store) (a b : HouseSeen D) (info : TableInfo) (listing : Listing) → GoesBehind a b → AreListedSteady told o a info listing
+      → AreListedSteady told o b info listing
+  listed-on o a b info listing behind files = record {
+    taken = files.taken;
+    inserts = all-steady-on o a b listing.inserts.items behind files.inserts;
+    deletes = all-steady-on o a b listing.deletes.items behind files.deletes;
+  }
+
+  -- ---- what is got
+
+  told-any : (o : Option Store) (P : Store → Type 0) → Tells o (λ s. ⊥) → Tells o P
+  told-any None P never = tt
+  told-any (Some s) P never = absurd never
+
+  pub got-steady : (o : Option Store) (before house : HouseSeen D) (place : Place) (bytes : Vec ℕ) → GoesBehind before house → IsSteady told o before place
+      → HasGot told house place bytes.items → Tells o (λ s. tree.get s.tree place ≡ bytes_got (Some bytes))
+  got-steady o before house place bytes behind steady has = steady.got house bytes.items behind has
+
+  pub missed-steady : (o : Option Store) (before house : HouseSeen D) (place : Place) → GoesBehind before house → IsSteady told o before place
+      → HasMissed told house place → Tells o (λ s. tree.get s.tree place ≡ bytes_got None)
+  missed-steady o before house place behind steady has = told-any o _ (steady.unmissed house behind has)
+
+-- ---- a moment
+
+pub moment-on : (now later : List Entry) (place : ℕ) (book : List Entry) (store : Store) → IsFront now later → IsMoment now place book store → IsMoment later place book store
+moment-on now later place book store front is = record {
+  faithful = is.faithful;
+  few = is.few;
+  front = front-more book now later is.front front;
+  has = is.has;
+}
+
+module _ {D : Type 0} (told : D → Option Store) (faults : D → ℕ) (house now : ToldHouse D) (kept : IsWholeOrClosed told house.house) (running : IsOpenHouse house)
+    (book : HasFittingBook (trail_in house)) (behind : GoesBehind (seen_in house) (seen_in now)) (place : ℕ) (has : HasPlace (trail_in house) place) where
+  pub shown-now : IsToldHouse told house.house → (store : Store) × (told house.house.shelf ≡ Some store) × IsFaithful (book_in house) store
+  shown-now is =
+      let shown = whole-shown told house.house (kept.whole running) is in (
+        shown.0,
+        shown.1,
+        subst (λ (entries : List Entry). IsFaithful entries shown.0) (sym (house-book house.house)) shown.2,
+      )
+
+  moment-of : (store : Store) → IsFaithful (book_in house) store → IsMoment (book_in now) place (book_in house) store
+  moment-of store faithful = record {
+    faithful = faithful;
+    few = (let few = book.few in omega (arith, few));
+    front = book-front (trail_in house) (trail_in now) behind.front;
+    has = has;
+  }
+
+  pub moment-now : IsToldHouse told house.house → HasMoment (book_in now) place
+  moment-now is = let shown = shown-now is in (book_in house, shown.0, moment-of shown.0 shown.2)
+
+  -- ---- files that were listed then
+
+  module _ (info : TableInfo) (listing : Listing) (named : IsNamedThen (trail_in house) place info) (listed : HasListed told (seen_in house) place info.table listing)
+      (is : IsToldHouse told house.house) where
+    there : IsThere (trail_in house) place info
+    there = found-there (trail_in house) place named.name info book named.named
+
+    reads-on : (later : HouseSeen D) → GoesBehind (seen_in house) later → ReadsOnTold told (seen_in house) later place there.table
+    reads-on later goes = record { is_told = is; start = goes.start; front = goes.front; has = has; here = there.here }
+
+    got-still : (later : HouseSeen D) → GoesBehind (seen_in house) later
+        → AllGotStill told (seen_in house) later listing.inserts.items × AllGotStill told (seen_in house) later listing.deletes.items
+    got-still later goes =
+        all-got told (seen_in house) later place there.table (reads-on later goes) listing
+        (subst (λ (i : TableInfo). HasListed told (seen_in house) place i.table listing) (sym there.info_is) listed)
+
+    at-store : (store : Store) (P : Store → Type 0) → told house.house.shelf ≡ Some store → IsSomeAnd (told house.house.shelf) P → P store
+    at-store store P at some = subst (λ (o : Option Store). IsSomeAnd o P) at some
+
+    at-told : (store : Store) (P : Store → Type 0) → told house.house.shelf ≡ Some store → Tells (told house.house.shelf) P → P store
+    at-told store P at tells = subst (λ (o : Option Store). Tells o P) at tells
+
+    one-steady : (store : Store) (file : DirFile) → told house.house.shelf ≡ Some store
+        → ((later : HouseSeen D) → GoesBehind (seen_in house) later → IsGotStill told (seen_in house) later file) → IsSteady told (Some store) (seen_in now) file.place
+    one-steady store file at still = record {
+      got = λ later bytes goes got. at-store store (λ s. tree.get s.tree file.place ≡ Some bytes) at
+          ((still later (behind-more (seen_in house) (seen_in now) later behind goes)).got bytes got);
+      unmissed = λ later goes missed. (still later (behind-more (seen_in house) (seen_in now) later behind goes)).never_missed missed;
+    }
+
+    pub listing-now : IsListing told now place info listing
+    listing-now =
+        let shown = shown-now is in
+        record {
+          book = book_in house;
+          store = shown.0;
+          moment = moment-of shown.0 shown.2;
+          name = named.name;
+          named = named.named;
+          list = listed.list;
+          files = record {
+            taken = at-told shown.0 (λ s. AreTaken info.table listing.list s.tree listing.inserts.items listing.deletes.items) shown.1 listed.files;
+            inserts = λ file among. one-steady shown.0 file shown.1 (λ later goes. (got-still later goes).0 file among);
+            deletes = λ file among. one-steady shown.0 file shown.1 (λ later goes. (got-still later goes).1 file among);
+          };
+        }
+
+-- ---- what was found and counted
+
+pub named-on : (before now : List TrailItem) (place : ℕ) (info : TableInfo) → IsFront before now → HasPlace before place → IsNamedThen before place info → IsNamedThen now place info
+named-on before now place info front has named = record {
+  name = named.name;
+  named = named.named ∙ ap (λ (s : State). option_map info_in (table_of_name named.name s.tables)) (sym (then-same before now front place has));
+}
+
+pub found-on : (before now : List TrailItem) (place : ℕ) (name : List ℕ) (found : Option TableInfo) → IsFront before now → HasPlace before place
+    → found ≡ info_then before place name → found ≡ info_then now place name
+found-on before now place name found front has is =
+    is ∙ ap (λ (s : State). option_map info_in (table_of_name name s.tables)) (sym (then-same before now front place has))
+
+pub dues-at : (trail : List TrailItem) (book : List Entry) (place : ℕ) (table : TableId) (dues : List Due) → IsFront book (book_of trail) → place ≤ length book
+    → AreAsMany dues (dues_in (state_then trail place) table.0) → AreAsMany dues (dues_in (state_of (take place book)) table.0)
+dues-at trail book place table dues front has same =
+    subst (λ (entries : List Entry). AreAsMany dues (dues_in (state_of entries) table.0)) (take-front book (book_of trail) place front has) same

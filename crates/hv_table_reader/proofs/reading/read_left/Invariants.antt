@@ -1,0 +1,19 @@
+use Rattle.std.proofs.Common.{◌≡◌, false, take, Option}
+use Rattle.hv_shelf.specs.Disk.{Store}
+use Rattle.hv_route.specs.Partitions.{partition_values}
+use Rattle.hv_table_rows.specs.Reading.{left_in}
+use Rattle.hv_acts.specs.Told.{seen_in}
+use Rattle.hv_table_reader.specs.Tables.{HasLookedOver}
+use Rattle.hv_table_reader.specs.Steady.{AreSteady}
+use Rattle.hv_table_reader.proofs.Files.{ReadsUpTo}
+use Rattle.hv_table_reader.proofs.reading.read_left.Given as goal
+use Rattle.hv_actor.specs.Acting.{among, known}
+
+abbrev pub invariant-loop-file : goal.invariant-loop-file
+invariant-loop-file g l =
+    (l.partition.values ≡ partition_values l.info.shape.parts l.partition.text)
+    × g.W.Actor.keeps l.actor
+    × HasLookedOver (among g.D.Shelf.told g.D.Shelf.faults g.W.Actor.between g.W.Actor.meanwhile) l.fn.by
+    (known (g.W.Actor.own l.fn.actor) (g.W.Actor.house l.fn.actor)) (known (g.W.Actor.own l.actor) (g.W.Actor.house l.actor))
+    × ((o : Option Store) → AreSteady g.D.Shelf.told o (seen_in (g.W.Actor.house l.fn.actor)) l.taken
+    → ReadsUpTo o false (take l.file-index l.taken) (left_in l.list l.gone l.info.shape) l.rows.items l.counts.items)

@@ -1,4 +1,0 @@
-pub mod Sheets
-pub mod Seen
-pub mod Counts
-pub mod Stood

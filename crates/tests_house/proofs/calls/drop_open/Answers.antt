@@ -1,0 +1,19 @@
+use Rattle.std.proofs.Common.{rules}
+use Rattle.hv_house.specs.House.{entries_of}
+use Rattle.tests_house.proofs.Rooms.{can_drop, refused_open}
+use Rattle.tests_house.proofs.calls.drop_open.Goals as goal
+
+pub drop_table-requires : goal.drop_table-requires
+drop_table-requires g c κs within =
+    let can =
+    can_drop c.book.result.now.entries (entries_of c.args.house.now) c.args.txn.0 c.args.table.0 c.book.ensures.entries
+    (c.drop_fits.ensures.fits.0 c.if-not-drop_fits.false) in
+    (search rules, (c.requires.ready, can))
+
+pub returns-in-Ok : goal.returns-in-Ok
+returns-in-Ok g c = record { ready = c.in-Ok.ensures.step.ready }
+
+pub returns-in-Err : goal.returns-in-Err
+returns-in-Err g c = record {
+  ready = refused_open c.args.house.now.limits g.D.Shelf.told c.in-Err.why c.drop_table.new.self c.refusal.result c.in-Err.ensures.step.stays c.refusal.ensures.refused;
+}
