@@ -38,11 +38,13 @@ abbrev pub Woven : (List TrailItem → Type 0) → ℕ → List (ℕ × TrailIte
 Woven between at [] added = between added
 Woven between at (mine ∷ own) added =
     (others : List TrailItem) × (rest : List TrailItem)
-    × (added ≡ others ++ mine.1 ∷ rest) × (mine.0 ≡ at + length others) × between others × Woven between (mine.0 + 1) own rest
+    × (added ≡ others ++ mine.1 ∷ rest) × (mine.0 ≡ at + length others) × between others
+    × Woven between (mine.0 + 1) own rest
 
 -- One's own steps added these items, in their order, and gained their places; all that was seen before goes on. This one word
 -- stands for the rest.
-pub record Went (between : List TrailItem → Type 0) (gained : List TrailItem) (own own' : List ℕ) (before now : List TrailItem) : Type 0 where
+pub record Went (between : List TrailItem → Type 0) (gained : List TrailItem) (own own' : List ℕ)
+    (before now : List TrailItem) : Type 0 where
   pub placed : List (ℕ × TrailItem)
   pub items : items_of placed ≡ gained
   pub places : own' ≡ own ++ places_of placed

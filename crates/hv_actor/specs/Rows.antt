@@ -27,5 +27,7 @@ later_itself faults house = record {
   rises = λ was is. absurd (true≢false (sym is ∙ was));
 }
 
-pub untouched_goes_on : {D H : Type 0} (faults : D → ℕ) (seen : H → HouseSeen D) (before now : H) → now ≡ before → IsLater faults (seen before) (seen now)
-untouched_goes_on faults seen before now e = subst (λ house. IsLater faults (seen before) (seen house)) (sym e) (later_itself faults (seen before))
+pub untouched_goes_on : {D H : Type 0} (faults : D → ℕ) (seen : H → HouseSeen D) (before now : H) → now ≡ before
+    → IsLater faults (seen before) (seen now)
+untouched_goes_on faults seen before now e = subst (λ house. IsLater faults (seen before) (seen house)) (sym e)
+    (later_itself faults (seen before))

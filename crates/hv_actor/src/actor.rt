@@ -51,7 +51,8 @@ pub trait Act<D: Shelf, H: Housed<D>>: Drop {
         requires can { can self (H.seen house.old) }
         ensures keeps { H.keeps house.new }
         ensures shuts { H.shuts house.new }
-        ensures step { Step D.told D.faults (call self (H.seen house.old) result) (outcome self result) (H.seen house.old) (H.seen house.new) }
+        ensures step { Step D.told D.faults (call self (H.seen house.old) result) (outcome self result)
+            (H.seen house.old) (H.seen house.new) }
         ensures adds { gains (call self (H.seen house.old) result) (outcome self result) ≡ adds self result }
         ensures does { does self (H.seen house.old) (H.seen house.new) result };
 }

@@ -17,6 +17,7 @@ pub mod Commits
 pub mod Lasting
 pub mod RunsOn
 pub mod Readings
+pub mod Listed
 pub mod ReadSteps
 pub mod Countings
 pub mod Showings

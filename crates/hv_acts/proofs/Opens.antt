@@ -6,8 +6,8 @@ use Rattle.hv_shelf.specs.Disk.{Store}
 use Rattle.hv_ast.specs.declared.statement.Stmt.{Stmt}
 use Rattle.hv_logic.specs.Names.{names_in}
 use Rattle.hv_book.specs.Briefs.{tree_in}
-use Rattle.hv_fits.specs.Texts.{TextsRun}
-use Rattle.hv_fits.proofs.LockLemmas.{texts-run, no-text, blocked-law}
+use Rattle.hv_showing.specs.hv_fits.specs.Texts.{TextsRun}
+use Rattle.hv_showing.specs.hv_fits.proofs.LockLemmas.{texts-run, no-text, blocked-law}
 use Rattle.hv_history.specs.declared.entry.Entry.{Entry}
 use Rattle.hv_history.specs.declared.entry.Entry.TheVariants as entry
 use Rattle.hv_history.specs.declared.state.Transaction.{Transaction}

@@ -1,55 +1,49 @@
--- What was listed under a place of the book stands behind others' steps as it stood, and is listed again.
-use Rattle.std.proofs.Common.{◌≡◌, ℕ, ◌+◌, ◌<◌, ◌≤◌, Bool, true, false, Option, Some, None, List, ◌++◌, length, take, option_map, refl, sym, ap, ◌∙◌, subst, arith}
+-- A place of the book is one of every longer one, and a table that was found was there. Who reads a table does so of every longer trail, and
+-- finds it live while its transaction is open.
+use Rattle.std.proofs.Common.{◌≡◌, ℕ, ◌+◌, ◌≤◌, Bool, true, false, cond, is_none, Option, Some, None, List, [], ◌∷◌, ◌++◌, length, take, option_map, refl, sym, ap, ◌∙◌, subst, append-nil, arith}
 use Rattle.std.proofs.lemmas.List.{length-append, take-append-le}
+use Rattle.std.proofs.lemmas.List.Concat.{flat_map-cons}
 use Rattle.std.proofs.Math.Seq.{take-length}
-use Rattle.std.specs.Prelude.{IsSomeAnd}
-use Rattle.std.specs.FinMap as tree
-use Rattle.hv_base.specs.Told.{Tells}
-use Rattle.std.specs.List.{AllByRecursion}
-use Rattle.hv_shelf.specs.Disk.{Tree, Store, places_of}
+use Rattle.std.specs.Prelude.{IsSomeAnd, IsTrue, slice_get}
+use Rattle.std.specs.List.{flat_map}
+use Rattle.hv_base.specs.declared.ids.TxnId.{TxnId}
+use Rattle.hv_shelf.specs.Disk.{Tree}
+use Rattle.hv_ast.specs.declared.statement.Stmt.{Stmt}
+use Rattle.hv_grammar.specs.Texts.{tree_of}
+use Rattle.hv_locks.specs.declared.table.Lock.{Lock}
+use Rattle.hv_logic.specs.Names.{names_in}
 use Rattle.hv_logic.specs.declared.catalog.TableInfo.{TableInfo}
-use Rattle.hv_dirs.specs.Names.{write_end}
-use Rattle.hv_wids.specs.WriteIds.{WriteIds}
-use Rattle.hv_history.specs.declared.entry.Entry.{Entry}
+use Rattle.hv_history.specs.declared.state.Ending.{Ending}
+use Rattle.hv_history.specs.declared.state.Statement.{Statement}
 use Rattle.hv_history.specs.declared.state.Table.{Table}
-use Rattle.hv_history.specs.declared.state.Written.{Written}
+use Rattle.hv_history.specs.declared.state.Transaction.{Transaction}
 use Rattle.hv_history.specs.State.{State, state_of, numbered}
-use Rattle.hv_history.specs.Lasting.{IsFront}
-use Rattle.hv_stands.specs.Files.{Stands}
-use Rattle.hv_stands.specs.Laws.{HasItsFiles}
-use Rattle.hv_stands.specs.Sound.{IsSound, KeepsAll}
+use Rattle.hv_history.specs.Jobs.{is_live_one}
+use Rattle.hv_history.specs.Lasting.{IsFront, AllLater, Later}
+use Rattle.hv_history.specs.Legal.{profile, is_open, is_started, locks_of_tree, is_named, is_named_there}
+use Rattle.hv_meta.specs.States.{state_by, transaction_state, state_in}
+use Rattle.hv_stands.specs.Sound.{IsSound}
 use Rattle.hv_stands.specs.Reading.{table_of_name}
+use Rattle.hv_stands.specs.Running.{Asking, snapshot_at, IsUnderWay}
 use Rattle.hv_stands.specs.Statements.{AllFitting}
 use Rattle.hv_stands.proofs.Fitting.{fitting-sound, fronts-fit}
-use Rattle.hv_stands.proofs.Soundness.{all-numbered}
+use Rattle.hv_stands.proofs.Numbers.{found}
 use Rattle.hv_stands.proofs.Tables.{named-numbered}
-use Rattle.hv_choosing.specs.declared.listing.DirFile.{DirFile}
-use Rattle.hv_choosing.specs.Listing.{IsNamed, AreListed}
-use Rattle.hv_choosing.specs.Taken.{files_taken}
-use Rattle.hv_choosing.specs.Laws.{IsOwnDir, IsOwnFile, TakesOwn}
-use Rattle.hv_choosing.proofs.Listed.{listed-named, listed-place, place-listed}
-use Rattle.hv_choosing.proofs.OwnChoice.{own-taken}
-use Rattle.hv_table_rows.specs.Laws.{StoodAt}
-use Rattle.hv_table_rows.proofs.Members.{In, all-in, in-all}
-use Rattle.hv_table_rows.proofs.OwnDirs.{own-named}
-use Rattle.hv_table_rows.proofs.TakenFiles.{place-there, there-place}
-use Rattle.hv_table_rows.proofs.Shown.{Shows, taken-file}
-use Rattle.hv_table_rows.proofs.StoredRows.{shows}
+use Rattle.hv_law_locks.proofs.Holding.{given-live}
+use Rattle.hv_law_made.specs.Standing.{Standing}
+use Rattle.hv_telling.specs.hv_house.specs.hv_law_read.specs.Reading.{ReadsAt}
 use Rattle.hv_trail.specs.declared.trail.TrailItem.{TrailItem}
 use Rattle.hv_trail.specs.Trail.{book_of, state_at}
-use Rattle.hv_trail.specs.Steps.{HouseSeen}
-use Rattle.hv_trail.proofs.LastingLaws.{book-append}
-use Rattle.hv_telling.specs.hv_house.specs.declared.listing.Listing.{Listing}
-use Rattle.hv_telling.specs.hv_house.specs.Listing.{info_in, AreTaken}
-use Rattle.hv_telling.specs.hv_house.specs.Seeing.{ids_in}
-use Rattle.hv_telling.specs.hv_house.proofs.Past.{says-committed}
-use Rattle.hv_telling.specs.Telling.{IsTold}
-use Rattle.hv_acts.specs.Reading.{HasPlace, state_then, HasFittingBook, info_then, IsThere, FilesStand, ReadsOn, HasListed, StandsStill, AllStandStill, AreSameFiles, ReadsOnTold, IsGotStill, AllGotStill}
+use Rattle.hv_trail.specs.Lasting.{Has, GoesOn}
+use Rattle.hv_trail.proofs.LastingLaws.{book-append, goes-on-front, lasts, ended-same}
+use Rattle.hv_telling.specs.hv_house.specs.Listing.{info_in}
+use Rattle.hv_acts.specs.Answers.{HasNotEnded}
+use Rattle.hv_acts.specs.Reading.{HasPlace, state_then, HasFittingBook, IsReader, HasReader, ReadsTable, IsUnended, info_then, IsThere}
 
 -- ---- a place of the book
 
 module _ (before now : List TrailItem) (front : IsFront before now) where
-  book-more : book_of now ≡ book_of before ++ book_of front.more
+  pub book-more : book_of now ≡ book_of before ++ book_of front.more
   book-more = ap book_of front.is ∙ book-append before front.more
 
   pub place-lasts : (place : ℕ) → HasPlace before place → HasPlace now place
@@ -66,6 +60,14 @@ module _ (before now : List TrailItem) (front : IsFront before now) where
 
   all-before : take (length (book_of before)) (book_of now) ≡ book_of before
   all-before = front-same (length (book_of before)) (omega arith) ∙ take-length (book_of before)
+
+  -- what all of a book has a front of it has
+  pub front-book : HasFittingBook now → HasFittingBook before
+  front-book book =
+      let count : length (book_of before) ≤ length (book_of now) = place-lasts (length (book_of before)) (omega arith) in record {
+        fit = subst AllFitting all-before (fronts-fit (book_of now) (length (book_of before)) book.fit);
+        few = (let few = book.few in omega (arith, count, few));
+      }
 
 -- ---- a table that was found
 
@@ -87,211 +89,171 @@ found-there trail place name info book is = by (table_of_name name tables) refl 
       info_is = let same : info ≡ table.info = cc in sym same;
     }
 
--- ---- which files are taken, where those of the book stand
+-- ---- who reads, of every longer trail
 
-module _ (info : TableInfo) (list : WriteIds) (writes : List Written) where
-  -- what is listed is in own directories
-  module _ (files : Tree) (shown : Shows info list files writes) (named : List DirFile) (listed : AreListed (places_of info.table files) named) where
-    names : AllByRecursion IsNamed named
-    names = listed-named (places_of info.table files) named listed
+abbrev locks_in : Statement → List Lock
+locks_in statement = locks_of_tree (tree_of statement.text)
 
-    there : (file : DirFile) → In file named → (file.place.table.0 ≡ info.table.0) × ((bytes : List ℕ) × (tree.get files file.place ≡ Some bytes))
-    there file h = there-place info.table files file.place (listed-place (places_of info.table files) named listed file h)
+locks-later : (xs ys : List Statement) → AllLater xs ys → flat_map locks_in ys ≡ flat_map locks_in xs
+locks-later [] [] later = refl
+locks-later [] (y ∷ ys) later = absurd later
+locks-later (x ∷ xs) [] later = absurd later
+locks-later (x ∷ xs) (y ∷ ys) later =
+    let text : y.text ≡ x.text = later.0.text in
+    flat_map-cons locks_in y ys ∙ (λ i. locks_of_tree (tree_of (text i)) ++ locks-later xs ys later.1 i) ∙ sym (flat_map-cons locks_in x xs)
 
-    own-file : (file : DirFile) → In file named → IsOwnFile file
-    own-file file h =
-        let at = there file h in
-        let own = shown.own file.place at.1.0 at.0 at.1.1 in
-        let dir = own-named file.place.dir file.dir own.deletes own.write own.statement (all-in IsNamed named names file h) own.dir own.last in
-        subst IsOwnDir (sym dir.1) tt
+reader-keeps : (place : ℕ) (tables : List Table) (name : List ℕ) (t u : Transaction) → Later t u → IsReader place tables name t → IsReader place tables name u
+reader-keeps place tables name t u later is = record {
+  snapshot = is.snapshot;
+  taken = later.snapshot is.snapshot is.taken;
+  place_is = is.place_is;
+  tables_are = is.tables_are;
+  lock = is.lock;
+  index = is.index;
+  held = ap (λ (locks : List Lock). slice_get locks is.index) (locks-later t.statements u.statements later.statements) ∙ is.held;
+  name_is = is.name_is;
+}
 
-    takes : (deletes : Bool) → TakesOwn deletes list named
-    takes deletes = own-taken deletes list named names (in-all IsOwnFile named own-file)
+module _ (before now : List TrailItem) (front : IsFront before now) (by : TxnId) (place : ℕ) where
+  pub reader-lasts : (name : List ℕ) → HasReader before by place name → HasReader now by place name
+  reader-lasts name reader = record {
+    has = place-lasts before now front place reader.has;
+    reads = subst (λ (s : State). Has now by.0 (IsReader place s.tables name)) (sym (then-same before now front place reader.has))
+        (lasts (IsReader place (state_then before place).tables name) (reader-keeps place (state_then before place).tables name) before now by.0
+        (goes-on-front before now front) reader.reads);
+  }
 
-  -- in another tree they stand with the same bytes
-  module _ (files files' : Tree) (shown : Shows info list files writes) (shown' : Shows info list files' writes) where
-    stands-still : (deletes : Bool) (named : List DirFile) → AreListed (places_of info.table files) named → (file : DirFile) → In file (files_taken deletes list named)
-        → StandsStill files files' file
-    stands-still deletes named listed file h =
-        let place = file.place in
-        let at = taken-file info list files writes shown named listed deletes file h in
-        let has = all-in (HasItsFiles files info.table.0 info.shape) writes shown.filed at.written at.among in
-        let has' = all-in (HasItsFiles files' info.table.0 info.shape) writes shown'.filed at.written at.among in
-        let is = has.each deletes place.partition place.bucket in
-        let is' = has'.each deletes place.partition place.bucket in
-        record {
-          bytes = at.bytes;
-          stood = at.is;
-          stands = ap (tree.get files') at.place ∙ is'.file_is ∙ sym is.file_is ∙ ap (tree.get files) (sym at.place) ∙ at.is;
-        }
+  pub table-lasts : (table : ℕ) → ReadsTable before by place table → ReadsTable now by place table
+  table-lasts table reads = record {
+    name = reads.name;
+    reader = reader-lasts reads.name reads.reader;
+    named = subst (λ (s : State). IsTrue (is_named_there reads.name (numbered s.tables table))) (sym (then-same before now front place reads.reader.has))
+        reads.named;
+  }
 
-    -- and are taken there
-    taken-still : (deletes : Bool) (named named' : List DirFile) → AreListed (places_of info.table files) named → AreListed (places_of info.table files') named'
-        → (file : DirFile) → In file (files_taken deletes list named) → In file (files_taken deletes list named')
-    taken-still deletes named named' listed listed' file h =
-        let still = stands-still deletes named listed file h in
-        let both = (takes files shown named listed deletes).only file h in
-        let at = there files shown named listed file both.0 in
-        (takes files' shown' named' listed' deletes).each file
-        (place-listed (places_of info.table files') named' listed' file.place file.dir (place-there info.table files' file.place still.bytes at.0 still.stands)
-        (all-in IsNamed named (names files shown named listed) file both.0))
-        both.1
+-- ---- how it is known
 
--- ---- a table as it stood at a place
-
-stood-at : (book : List Entry) (place : ℕ) (files : Tree) (table : Table) → AllFitting book → length book < write_end → Stands (state_of book) files
-    → numbered (state_of (take place book)).tables table.info.table.0 ≡ Some table → StoodAt book place files table (ids_in (state_of (take place book)) table.info.table.0)
-stood-at book place files table fit few stands here =
-    let then_ : State = state_of (take place book) in
-    let sound : IsSound then_ = fitting-sound (take place book) (fronts-fit book place fit) in
-    record {
-      fit = fit;
-      sound = fitting-sound book fit;
-      sound_then = sound;
-      few = few;
-      stands = stands;
-      here = here;
-      says = says-committed then_ table here (all-numbered KeepsAll then_.tables table.info.table.0 table here sound.tables.keeping);
+-- a statement under way reads under the names that it locks
+pub reader-under-way : (trail : List TrailItem) (asking : Asking) (by : TxnId) (place : ℕ) (said : Stmt) (given : List (ℕ × ℕ)) (index : ℕ) (lock : Lock)
+    → IsUnderWay (book_of trail) asking by.0 place said given → slice_get (names_in said) index ≡ Some lock → HasReader trail by place lock.name
+reader-under-way trail asking by place said given index lock way held =
+    let early = way.early in
+    let own : locks_of_tree (tree_of asking.text) ++ [] ≡ names_in said = append-nil (locks_of_tree (tree_of asking.text)) ∙ ap locks_of_tree way.runs.read in record {
+      has = omega (arith, early);
+      reads = subst (λ (o : Option Transaction). IsSomeAnd o (IsReader place (state_then trail place).tables lock.name)) (sym way.here) (record {
+        snapshot = snapshot_at (book_of trail) place;
+        taken = refl;
+        place_is = refl;
+        tables_are = refl;
+        lock = lock;
+        index = index;
+        held = ap (λ (locks : List Lock). slice_get locks index) own ∙ held;
+        name_is = refl;
+      });
     }
 
-module _ (before now : List TrailItem) (files files' : Tree) (place : ℕ) (table : Table) (on : ReadsOn before now files files' place table) where
-  abbrev number : ℕ
-  number = table.info.table.0
+named-by : (name : List ℕ) (first table : Table) (rest : Option Table) → (rest ≡ Some table → is_named name table ≡ true)
+    → (b : Bool) → is_named name first ≡ b → cond b (Some first) rest ≡ Some table → is_named name table ≡ true
+named-by name first table rest later true is e = let same : first ≡ table = cc in subst (λ (t : Table). is_named name t ≡ true) same is
+named-by name first table rest later false is e = later e
 
-  abbrev list : WriteIds
-  list = ids_in (state_then before place) number
+named-so : (name : List ℕ) (tables : List Table) (table : Table) → table_of_name name tables ≡ Some table → is_named name table ≡ true
+named-so name [] table e = cc
+named-so name (first ∷ tables) table e = named-by name first table (table_of_name name tables) (named-so name tables table) (is_named name first) refl e
 
-  same-then : state_then now place ≡ state_then before place
-  same-then = then-same before now on.front place on.has
+-- and what has the name is the table that it reads
+pub table-read : (trail : List TrailItem) (by : TxnId) (place : ℕ) (name : List ℕ) (info : TableInfo) → HasFittingBook trail → HasReader trail by place name
+    → Some info ≡ info_then trail place name → ReadsTable trail by place info.table.0
+table-read trail by place name info book reader is = of (table_of_name name tables) refl is
+  where
+    tables : List Table
+    tables = (state_then trail place).tables
 
-  shown : Shows table.info list files table.writes
-  shown =
-      let fit = subst AllFitting (all-before before now on.front) (fronts-fit (book_of now) (length (book_of before)) on.book.fit) in
-      let count : length (book_of before) ≤ length (book_of now) = place-lasts before now on.front (length (book_of before)) (omega arith) in
-      shows (book_of before) place files table list
-      (stood-at (book_of before) place files table fit (let few = on.book.few in omega (arith, count, few)) on.stood on.here)
+    sound : IsSound (state_then trail place)
+    sound = fitting-sound (take place (book_of trail)) (fronts-fit (book_of trail) place book.fit)
 
-  shown' : Shows table.info list files' table.writes
-  shown' =
-      subst (λ (s : State). Shows table.info (ids_in s number) files' table.writes) same-then
-      (shows (book_of now) place files' table (ids_in (state_then now place) number)
-      (stood-at (book_of now) place files' table on.book.fit (let few = on.book.few in omega (arith, few)) on.stand
-      (ap (λ (s : State). numbered s.tables number) same-then ∙ on.here)))
+    of : (o : Option Table) → table_of_name name tables ≡ o → Some info ≡ option_map info_in o → ReadsTable trail by place info.table.0
+    of None at is = cc
+    of (Some table) at is =
+        let same : info ≡ table.info = cc in
+        let here : numbered tables info.table.0 ≡ Some table =
+        ap (λ (i : TableInfo). numbered tables i.table.0) same ∙ named-numbered name tables table sound.tables.in_order at in record {
+          name = name;
+          reader = reader;
+          named = ap (is_named_there name) here ∙ named-so name tables table at;
+        }
 
-  pub all-stand : (inserts deletes : List DirFile) → AreTaken table.info.table list files inserts deletes → AllStandStill files files' inserts × AllStandStill files files' deletes
-  all-stand inserts deletes taken = (
-    λ file h. stands-still table.info list table.writes files files' shown shown' false taken.named taken.listed file (subst (In file) taken.inserts_are h),
-    λ file h. stands-still table.info list table.writes files files' shown shown' true taken.named taken.listed file (subst (In file) taken.deletes_are h),
-  )
+-- ---- it is open, and its table is live
 
-  same-files : (kind : Bool) (named named' : List DirFile) → AreListed (places_of table.info.table files) named → AreListed (places_of table.info.table files') named'
-      → AreSameFiles (files_taken kind list named) (files_taken kind list named')
-  same-files kind named named' listed listed' = record {
-    still = taken-still table.info list table.writes files files' shown shown' kind named named' listed listed';
-    no_more = taken-still table.info list table.writes files' files shown' shown kind named' named listed' listed;
-  }
+-- what has not ended later had not ended before
+pub unended-before : (before now : List TrailItem) (txn : ℕ) → GoesOn before now → HasNotEnded (state_in (state_at now) txn) → HasNotEnded (state_in (state_at before) txn)
+unended-before before now txn goes unended = of (numbered (state_at before).transactions txn) refl
+  where
+    ends : (t : Transaction) (ending : Option Ending) → numbered (state_at before).transactions txn ≡ Some t → t.ending ≡ ending
+        → HasNotEnded (state_by ending (is_started t))
+    ends t None here is = tt
+    ends t (Some ending) here is =
+        let same : numbered (state_at now).transactions txn ≡ Some t = ended-same before now txn t ending goes here is in
+        let ended : HasNotEnded (state_by t.ending (is_started t)) = subst (λ (o : Option Transaction). HasNotEnded (transaction_state o)) same unended in
+        subst (λ (e : Option Ending). HasNotEnded (state_by e (is_started t))) is ended
 
-  pub all-same : (inserts deletes inserts' deletes' : List DirFile) → AreTaken table.info.table list files inserts deletes
-      → AreTaken table.info.table (ids_in (state_then now place) number) files' inserts' deletes' → AreSameFiles inserts inserts' × AreSameFiles deletes deletes'
-  all-same inserts deletes inserts' deletes' taken later =
-      let taken' : AreTaken table.info.table list files' inserts' deletes' =
-      subst (λ (s : State). AreTaken table.info.table (ids_in s number) files' inserts' deletes') same-then later in (
-        as-are inserts inserts' _ _ taken.inserts_are taken'.inserts_are (same-files false taken.named taken'.named taken.listed taken'.listed),
-        as-are deletes deletes' _ _ taken.deletes_are taken'.deletes_are (same-files true taken.named taken'.named taken.listed taken'.listed),
-      )
-    where
-      as-are : (xs ys us vs : List DirFile) → xs ≡ us → ys ≡ vs → AreSameFiles us vs → AreSameFiles xs ys
-      as-are xs ys us vs p q same =
-          subst (λ (zs : List DirFile). AreSameFiles zs ys) (sym p) (subst (λ (zs : List DirFile). AreSameFiles us zs) (sym q) same)
+    of : (o : Option Transaction) → numbered (state_at before).transactions txn ≡ o → HasNotEnded (transaction_state o)
+    of None here = tt
+    of (Some t) here = ends t t.ending here refl
 
--- ---- over a told house
+pub record IsOpenReader (trail : List TrailItem) (by : TxnId) (place : ℕ) (name : List ℕ) : Type 0 where
+  pub transaction : Transaction
+  pub here : numbered (state_at trail).transactions by.0 ≡ Some transaction
+  pub unended : is_open transaction ≡ true
+  pub is : IsReader place (state_then trail place).tables name transaction
 
-in-both : {A : Type 0} (o p : Option A) (P Q : A → Type 0) (R : A → A → Type 0) → IsSomeAnd o P → IsSomeAnd p Q → ((x y : A) → o ≡ Some x → p ≡ Some y → P x → Q y → R x y)
-    → IsSomeAnd o (λ x. IsSomeAnd p (R x))
-in-both None p P Q R is also f = absurd is
-in-both (Some x) None P Q R is also f = absurd also
-in-both (Some x) (Some y) P Q R is also f = f x y refl refl is also
+open-by : (ending : Option Ending) (started : Bool) → HasNotEnded (state_by ending started) → is_none ending ≡ true
+open-by None started unended = refl
+open-by (Some ending) started unended = absurd unended
 
-told-at : (o : Option Store) (s : Store) (P : Store → Type 0) → o ≡ Some s → Tells o P → P s
-told-at o s P is tells = subst (λ (p : Option Store). Tells p P) is tells
+open-at : (o : Option Transaction) (t : Transaction) → o ≡ Some t → HasNotEnded (transaction_state o) → is_open t ≡ true
+open-at None t e unended = cc
+open-at (Some u) t e unended =
+    let same : u ≡ t = cc in subst (λ (x : Transaction). is_open x ≡ true) same (open-by u.ending (is_started u) unended)
 
-module _ {D : Type 0} (told : D → Option Store) (before now : HouseSeen D) (place : ℕ) (table : Table) (on : ReadsOnTold told before now place table) where
-  told-now : IsTold told now.start
-  told-now = subst (IsTold told) (sym on.start) on.is_told
+pub reader-opens : (trail : List TrailItem) (by : TxnId) (place : ℕ) (name : List ℕ) → HasReader trail by place name → IsUnended trail by
+    → IsOpenReader trail by place name
+reader-opens trail by place name reader unended =
+    let at = found (IsReader place (state_then trail place).tables name) (numbered (state_at trail).transactions by.0) reader.reads in record {
+      transaction = at.0;
+      here = at.1;
+      unended = open-at (numbered (state_at trail).transactions by.0) at.0 at.1 unended;
+      is = at.2;
+    }
 
-  -- the files of both books stand
-  reads-on : (s t : Store) → HasFittingBook now.trail → Stands (state_at before.trail) s.tree → Stands (state_at now.trail) t.tree
-      → ReadsOn before.trail now.trail s.tree t.tree place table
-  reads-on s t book stood stand = record { front = on.front; has = on.has; book = book; stood = stood; stand = stand; here = on.here }
+live-one : (o : Option Table) → IsSomeAnd o (λ (table : Table). IsTrue table.is_live) → is_live_one o ≡ true
+live-one None live = absurd live
+live-one (Some table) live = live
 
-  taken-at : (listing : Listing) (s : Store) → told before.shelf ≡ Some s → HasListed told before place table.info.table listing
-      → AreTaken table.info.table (ids_in (state_then before.trail place) table.info.table.0) s.tree listing.inserts.items listing.deletes.items
-  taken-at listing s at has =
-      subst (λ (list : WriteIds). AreTaken table.info.table list s.tree listing.inserts.items listing.deletes.items) has.list
-      (told-at (told before.shelf) s (λ t. AreTaken table.info.table listing.list t.tree listing.inserts.items listing.deletes.items) at has.files)
+module _ (trail : List TrailItem) (by : TxnId) (place : ℕ) (book : HasFittingBook trail) (unended : IsUnended trail by) where
+  table-live : (table : ℕ) → ReadsTable trail by place table → is_live_one (numbered (state_at trail).tables table) ≡ true
+  table-live table reads =
+      let at = reader-opens trail by place reads.name reads.reader unended in
+      live-one (numbered (state_at trail).tables table)
+      (given-live profile (book_of trail) by.0 at.transaction at.is.snapshot at.is.lock table book.fit
+      (record { here = at.here; unended = at.unended; snapshot = at.is.taken; place = at.is.index; held = at.is.held })
+      ((λ i. is_named_there (at.is.name_is i) (numbered (at.is.tables_are i) table)) ∙ reads.named))
 
-  -- what was listed stands still, of either kind
-  abbrev BothStand : Listing → Store → Store → Type 0
-  BothStand listing s t = AllStandStill s.tree t.tree listing.inserts.items × AllStandStill s.tree t.tree listing.deletes.items
-
-  listed-stand : (listing : Listing) → HasListed told before place table.info.table listing → HasFittingBook now.trail → FilesStand told now
-      → IsSomeAnd (told before.shelf) (λ s. IsSomeAnd (told now.shelf) (BothStand listing s))
-  listed-stand listing has book stand =
-      in-both (told before.shelf) (told now.shelf) _ _ (BothStand listing) (has.stand on.is_told) (stand told-now)
-      (λ s t at then_ stood stands. all-stand before.trail now.trail s.tree t.tree place table (reads-on s t book stood stands)
-      listing.inserts.items listing.deletes.items (taken-at listing s at has))
-
-  -- a file that is got later
-  file-got : (file : DirFile) (o p : Option Store) (found : List ℕ) → IsSomeAnd o (λ s. IsSomeAnd p (λ t. StandsStill s.tree t.tree file))
-      → Tells p (λ t. tree.get t.tree file.place ≡ Some found) → IsSomeAnd o (λ s. tree.get s.tree file.place ≡ Some found)
-  file-got file None p found still bytes = absurd still
-  file-got file (Some s) None found still bytes = absurd still
-  file-got file (Some s) (Some t) found still bytes = still.stood ∙ sym still.stands ∙ bytes
-
-  file-there : (file : DirFile) (o p : Option Store) → IsSomeAnd o (λ s. IsSomeAnd p (λ t. StandsStill s.tree t.tree file))
-      → Tells p (λ t. tree.get t.tree file.place ≡ None) → ⊥
-  file-there file None p still none = absurd still
-  file-there file (Some s) None still none = absurd still
-  file-there file (Some s) (Some t) still none = let never : Some still.bytes ≡ None = sym still.stands ∙ none in cc
-
-  one-still : (file : DirFile) (o p : Option Store) (P : Store → Store → Type 0) → ((s t : Store) → P s t → StandsStill s.tree t.tree file)
-      → IsSomeAnd o (λ s. IsSomeAnd p (P s)) → IsSomeAnd o (λ s. IsSomeAnd p (λ t. StandsStill s.tree t.tree file))
-  one-still file None p P f still = absurd still
-  one-still file (Some s) None P f still = absurd still
-  one-still file (Some s) (Some t) P f still = f s t still
-
-  got-still : (listing : Listing) (file : DirFile) → HasListed told before place table.info.table listing
-      → ((s t : Store) → BothStand listing s t → StandsStill s.tree t.tree file) → IsGotStill told before now file
-  got-still listing file has one = record {
-    got = λ found is. file-got file (told before.shelf) (told now.shelf) found
-        (one-still file (told before.shelf) (told now.shelf) (BothStand listing) one (listed-stand listing has is.book is.stand)) is.bytes;
-    never_missed = λ is. file-there file (told before.shelf) (told now.shelf)
-        (one-still file (told before.shelf) (told now.shelf) (BothStand listing) one (listed-stand listing has is.book is.stand)) is.none;
-  }
-
-  pub all-got : (listing : Listing) → HasListed told before place table.info.table listing
-      → AllGotStill told before now listing.inserts.items × AllGotStill told before now listing.deletes.items
-  all-got listing has = (
-    λ file h. got-still listing file has (λ s t both. both.0 file h),
-    λ file h. got-still listing file has (λ s t both. both.1 file h),
-  )
-
-  -- ---- what is listed again
-
-  abbrev BothSame : Listing → Listing → Type 0
-  BothSame listing listing' = AreSameFiles listing.inserts.items listing'.inserts.items × AreSameFiles listing.deletes.items listing'.deletes.items
-
-  of-some : (o p : Option Store) (P : Type 0) → IsSomeAnd o (λ s. IsSomeAnd p (λ t. P)) → P
-  of-some None p P is = absurd is
-  of-some (Some s) None P is = absurd is
-  of-some (Some s) (Some t) P is = is
-
-  pub listed-again : (listing listing' : Listing) → HasListed told before place table.info.table listing → HasListed told now place table.info.table listing'
-      → BothSame listing listing'
-  listed-again listing listing' has has' =
-      of-some (told before.shelf) (told now.shelf) (BothSame listing listing')
-      (in-both (told before.shelf) (told now.shelf) _ _ (λ s t. BothSame listing listing') (has.stand on.is_told) (has'.stand told-now)
-      (λ s t at then_ stood stands. all-same before.trail now.trail s.tree t.tree place table (reads-on s t has'.book stood stands)
-      listing.inserts.items listing.deletes.items listing'.inserts.items listing'.deletes.items (taken-at listing s at has)
-      (subst (λ (list : WriteIds). AreTaken table.info.table list t.tree listing'.inserts.items listing'.deletes.items) has'.list
-      (told-at (told now.shelf) t (λ u. AreTaken table.info.table listing'.list u.tree listing'.inserts.items listing'.deletes.items) then_ has'.files))))
+  -- so it reads the table as it stood at the place
+  pub reads-at : (table : Table) (files : Tree) → ReadsTable trail by place table.info.table.0
+      → numbered (state_then trail place).tables table.info.table.0 ≡ Some table → Standing (state_at trail) files → ReadsAt (book_of trail) by.0 place table files
+  reads-at table files reads stood standing =
+      let at = reader-opens trail by place reads.name reads.reader unended in
+      let few = book.few in record {
+        fit = book.fit;
+        few = omega (arith, few);
+        stands = standing;
+        transaction = at.transaction;
+        here = at.here;
+        unended = at.unended;
+        snapshot = at.is.snapshot;
+        taken = at.is.taken;
+        place_is = at.is.place_is;
+        stood = stood;
+        live = table-live table.info.table.0 reads;
+      }

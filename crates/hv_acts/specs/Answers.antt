@@ -100,8 +100,10 @@ IsFilesTest FilesTest = Unit {0}
 -- says nothing here: its step does.
 abbrev pub IsWhy : Test → List TrailItem → TxnId → Type 0 → ActFault → Type 0
 IsWhy test trail txn Fact (act.Ended at) = state_in (state_at trail) txn.0 ≡ standing.Ended at
-IsWhy test trail txn Fact (act.Full entries) = IsStartTest test × (entries ≡ length (book_of trail)) × Of (state_at trail) txn.0 (FullFits profile (state_at trail))
-IsWhy test trail txn Fact (act.Held by) = IsStartTest test × Of (state_at trail) txn.0 (BlockedFits (state_at trail) by.0)
+IsWhy test trail txn Fact (act.Full entries) = IsStartTest test × (entries ≡ length (book_of trail))
+    × Of (state_at trail) txn.0 (FullFits profile (state_at trail))
+IsWhy test trail txn Fact (act.Held by) = IsStartTest test
+    × Of (state_at trail) txn.0 (BlockedFits (state_at trail) by.0)
 IsWhy test trail txn Fact (act.Broken put count) = IsFilesTest test × (broken (Txn txn) trail ≡ Some (put, count))
 IsWhy test trail txn Fact act.Unfit = HasNotEnded (state_in (state_at trail) txn.0) × (Fact → ⊥)
 IsWhy test trail txn Fact (act.House why) = Unit {0}
@@ -129,8 +131,10 @@ pub record IsCutShort {D : Type 0} (told : D → Option Store) (txn : ℕ) (befo
   pub leaves : Leaves fault.Store further (told now.shelf) (book_of before.trail)
 
 -- only a closed house, or one whose store fails now, answers that the store failed; then its count of faults rose
-abbrev pub FaultLeaves : {D : Type 0} → (D → Option Store) → (D → ℕ) → ℕ → HouseSeen D → HouseSeen D → HouseFault → Type 0
-FaultLeaves told faults txn before now fault.Store = before.closed ≡ false → IsCutShort told txn before now × Rose (faults before.shelf) (faults now.shelf)
+abbrev pub FaultLeaves : {D : Type 0} → (D → Option Store) → (D → ℕ) → ℕ → HouseSeen D → HouseSeen D → HouseFault
+    → Type 0
+FaultLeaves told faults txn before now fault.Store = before.closed ≡ false → IsCutShort told txn before now
+    × Rose (faults before.shelf) (faults now.shelf)
 FaultLeaves told faults txn before now fault.NoMemory = before.closed ≡ false
 FaultLeaves told faults txn before now (fault.Failed count) = before.closed ≡ false
 
@@ -138,7 +142,8 @@ abbrev pub WhyLeaves : {D : Type 0} → (D → Option Store) → (D → ℕ) →
 WhyLeaves told faults txn before now (act.House why) = FaultLeaves told faults txn before now why
 WhyLeaves told faults txn before now why = before.closed ≡ false
 
-abbrev pub AnswerLeaves : {D T : Type 0} → (D → Option Store) → (D → ℕ) → ℕ → HouseSeen D → HouseSeen D → Result T ActFault → Type 0
+abbrev pub AnswerLeaves : {D T : Type 0} → (D → Option Store) → (D → ℕ) → ℕ → HouseSeen D → HouseSeen D
+    → Result T ActFault → Type 0
 AnswerLeaves told faults txn before now (Ok x) = before.closed ≡ false
 AnswerLeaves told faults txn before now (Err why) = WhyLeaves told faults txn before now why
 
@@ -158,10 +163,12 @@ abbrev pub EntryFits : List TrailItem → Entry → Type 0
 EntryFits trail event = Fits profile (state_at trail) event
 
 -- all that is promised of an entry of this transaction that was to be noted
-pub record EntryStep {D T : Type 0} (told : D → Option Store) (faults : D → ℕ) (txn : TxnId) (event : Entry) (before now : House D) (result : Result T ActFault) : Type 0 where
+pub record EntryStep {D T : Type 0} (told : D → Option Store) (faults : D → ℕ) (txn : TxnId) (event : Entry)
+    (before now : House D) (result : Result T ActFault) : Type 0 where
   pub keeps : IsWholeOrClosed told now
   pub step : Step told faults (answer_call (Note event) result) (answer_outcome result) (seen_of before) (seen_of now)
-  pub answers : Answers NoTest (trail_of before.trail) txn (EntryFits (trail_of before.trail) event) (λ x. Unit {0}) result
+  pub answers : Answers NoTest (trail_of before.trail) txn (EntryFits (trail_of before.trail) event) (λ x. Unit {0})
+      result
   pub leaves : AnswerLeaves told faults txn.0 (seen_of before) (seen_of now) result
 
 -- ---- numbers that are given next

@@ -52,7 +52,8 @@ adds_beginning session number text (Err why) = []
 -- what stands in the way: the lowest open started transaction that holds a lock against it, or, where there is none, the lack of room
 abbrev pub IsHindered : List TrailItem → Stmt → BeginFault → Type 0
 IsHindered trail tree (hindered.Held by) = holder_against (book_of trail) tree ≡ Some by.0
-IsHindered trail tree (hindered.Full entries) = (entries ≡ length (book_of trail)) × (holder_against (book_of trail) tree ≡ None)
+IsHindered trail tree (hindered.Full entries) = (entries ≡ length (book_of trail))
+    × (holder_against (book_of trail) tree ≡ None)
 IsHindered trail tree (hindered.House why) = ⊥
 
 -- it was begun: all that the book had fits, nothing stood in the way, and it has the next number and the next two places
@@ -65,7 +66,8 @@ pub record HasBegun (book : List Entry) (tree : Stmt) (start : Begun) : Type 0 w
 -- why it was not
 abbrev pub IsBeginWhy : List Entry → Stmt → BeginFault → Type 0
 IsBeginWhy book tree (hindered.Held by) = holder_against book tree ≡ Some by.0
-IsBeginWhy book tree (hindered.Full entries) = (entries ≡ length book) × (holder_against book tree ≡ None) × (HasRoom profile (state_of book) 3 → ⊥)
+IsBeginWhy book tree (hindered.Full entries) = (entries ≡ length book) × (holder_against book tree ≡ None)
+    × (HasRoom profile (state_of book) 3 → ⊥)
 IsBeginWhy book tree (hindered.House why) = Unit {0}
 
 abbrev pub BeginAnswers : List TrailItem → Stmt → Result Begun BeginFault → Type 0
@@ -73,15 +75,18 @@ BeginAnswers trail tree (Ok start) = HasBegun (book_of trail) tree start
 BeginAnswers trail tree (Err why) = IsBeginWhy (book_of trail) tree why
 
 -- the journal of a house that was open reads to the book still, or to the book and both entries, which fit
-pub record IsBeginningCut {D : Type 0} (told : D → Option Store) (asking : Asking) (before now : HouseSeen D) : Type 0 where
+pub record IsBeginningCut {D : Type 0} (told : D → Option Store) (asking : Asking)
+    (before now : HouseSeen D) : Type 0 where
   pub fits : BeginFits (book_of before.trail) asking
   pub leaves : Leaves fault.Store (beginning_of (book_of before.trail) asking) (told now.shelf) (book_of before.trail)
 
-abbrev pub BeginLeaves : {D : Type 0} → (D → Option Store) → (D → ℕ) → Asking → HouseSeen D → HouseSeen D → Result Begun BeginFault → Type 0
+abbrev pub BeginLeaves : {D : Type 0} → (D → Option Store) → (D → ℕ) → Asking → HouseSeen D → HouseSeen D
+    → Result Begun BeginFault → Type 0
 BeginLeaves told faults asking before now (Ok start) = before.closed ≡ false
 BeginLeaves told faults asking before now (Err (hindered.Held by)) = before.closed ≡ false
 BeginLeaves told faults asking before now (Err (hindered.Full entries)) = before.closed ≡ false
-BeginLeaves told faults asking before now (Err (hindered.House fault.Store)) = before.closed ≡ false → IsBeginningCut told asking before now × Rose (faults before.shelf) (faults now.shelf)
+BeginLeaves told faults asking before now (Err (hindered.House fault.Store)) = before.closed ≡ false
+    → IsBeginningCut told asking before now × Rose (faults before.shelf) (faults now.shelf)
 BeginLeaves told faults asking before now (Err (hindered.House fault.NoMemory)) = before.closed ≡ false
 BeginLeaves told faults asking before now (Err (hindered.House (fault.Failed count))) = ⊥
 

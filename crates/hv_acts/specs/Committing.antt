@@ -52,7 +52,8 @@ adds_commit txn wrote (Err why) = []
 -- ---- what a commit rests on, and is there still whatever others do
 
 -- these are the touches of a change in a table that is there, under a write id that the transaction was given, and these the places of its files
-pub record IsOfItsChange (trail : List TrailItem) (txn : TxnId) (wrote : List Touch) (places : List Place) : Type 0 where
+pub record IsOfItsChange (trail : List TrailItem) (txn : TxnId) (wrote : List Touch)
+    (places : List Place) : Type 0 where
   pub info : TableInfo
   pub here : IsSomeAnd (numbered (state_at trail).tables info.table.0) (λ (table : Table). table.info ≡ info)
   pub effect : Effect
@@ -82,7 +83,8 @@ pub record IsConflictOf (at : ℕ) (by : TxnId) (touch : Touch) (name : List ℕ
   pub line : found.aborted.text ≡ conflict_text by.0 name touch.partition
 
 -- the first commit behind its snapshot that conflicts is that one's, and the first place that both share is this partition
-pub record IsConflict (trail : List TrailItem) (txn : TxnId) (wrote : List Touch) (by : TxnId) (table : TableId) (partition : List ℕ) : Type 0 where
+pub record IsConflict (trail : List TrailItem) (txn : TxnId) (wrote : List Touch) (by : TxnId) (table : TableId)
+    (partition : List ℕ) : Type 0 where
   pub clash : Clash
   pub is : IsClash (state_at trail) txn.0 wrote clash
   pub by_is : by ≡ clash.by
@@ -90,7 +92,8 @@ pub record IsConflict (trail : List TrailItem) (txn : TxnId) (wrote : List Touch
   pub partition_is : partition ≡ is.touch.partition
 
 -- the transaction runs and met this conflict: its cause fits, and its line has the table's name
-pub record HasMet (trail : List TrailItem) (txn : TxnId) (wrote : List Touch) (name : List ℕ) (found : Conflict) : Type 0 where
+pub record HasMet (trail : List TrailItem) (txn : TxnId) (wrote : List Touch) (name : List ℕ)
+    (found : Conflict) : Type 0 where
   pub by : TxnId
   pub table : TableId
   pub partition : List ℕ
@@ -116,19 +119,22 @@ pub record IsReadyWith (wrote : List Touch) (transaction : Transaction) : Type 0
   pub used : AllByRecursion (λ given. IsTrue (is_touched wrote given)) transaction.given
 
 -- what a commit rests on: it has the marks of its files, and runs, with touches that are its own, under one write id at most
-pub record RestsOnCommit (trail : List TrailItem) (txn : TxnId) (wrote : List Touch) (places : List Place) : Type 0 where
+pub record RestsOnCommit (trail : List TrailItem) (txn : TxnId) (wrote : List Touch)
+    (places : List Place) : Type 0 where
   pub put : WerePut trail txn places
   pub ready : Of (state_at trail) txn.0 (IsReadyWith wrote)
   pub alone : HasAtMost trail txn 1
 
 -- it committed by the next entry: no call on files had failed for it
-pub record HasCommitted (trail : List TrailItem) (txn : TxnId) (wrote : List Touch) (places : List Place) (at : ℕ) : Type 0 where
+pub record HasCommitted (trail : List TrailItem) (txn : TxnId) (wrote : List Touch) (places : List Place)
+    (at : ℕ) : Type 0 where
   pub place : at ≡ length (book_of trail)
   pub unbroken : broken (Txn txn) trail ≡ None
   pub fits : CommitsAlone trail txn wrote places
 
 -- it was aborted by the next entry, for this conflict, and this is what is printed
-pub record HasConflicted (trail : List TrailItem) (txn : TxnId) (wrote : List Touch) (name : List ℕ) (aborted : Aborted) : Type 0 where
+pub record HasConflicted (trail : List TrailItem) (txn : TxnId) (wrote : List Touch) (name : List ℕ)
+    (aborted : Aborted) : Type 0 where
   pub place : aborted.at ≡ length (book_of trail)
   pub by : TxnId
   pub table : TableId
@@ -139,10 +145,12 @@ pub record HasConflicted (trail : List TrailItem) (txn : TxnId) (wrote : List To
   pub fits : EntryFits trail (entry.Abort txn aborted.cause)
   pub runs : RunsWith trail txn 1
 
-abbrev pub CommitAnswers : List TrailItem → TxnId → List Touch → List ℕ → List Place → Result Committed ActFault → Type 0
+abbrev pub CommitAnswers : List TrailItem → TxnId → List Touch → List ℕ → List Place → Result Committed ActFault
+    → Type 0
 CommitAnswers trail txn wrote name places (Ok (committed.At place)) = HasCommitted trail txn wrote places place
 CommitAnswers trail txn wrote name places (Ok (committed.Aborted aborted)) = HasConflicted trail txn wrote name aborted
-CommitAnswers trail txn wrote name places (Err why) = IsWhy FilesTest trail txn (RestsOnCommit trail txn wrote places) why
+CommitAnswers trail txn wrote name places (Err why) = IsWhy FilesTest trail txn (RestsOnCommit trail txn wrote places)
+    why
 
 -- all that is promised of a transaction that was to commit
 pub record CommitStep {D : Type 0} (told : D → Option Store) (faults : D → ℕ) (due : CommitWrites)

@@ -30,7 +30,8 @@ CountAnswers house place table (Ok dues) = HasCounted house place table dues.ite
 CountAnswers house place table (Err why) = IsFindWhy house.closed why
 
 -- all that is promised of dues that were to be counted: the house was only asked
-pub record CountStep {D : Type 0} (told : D → Option Store) (faults : D → ℕ) (place : ℕ) (table : TableId) (house : House D)
+pub record CountStep {D : Type 0} (told : D → Option Store) (faults : D → ℕ) (place : ℕ) (table : TableId)
+    (house : House D)
     (result : Result (Vec Due) ActFault) : Type 0 where
   pub step : Step told faults Ask (answer_outcome result) (seen_of house) (seen_of house)
   pub answers : CountAnswers (seen_of house) place table result

@@ -29,8 +29,11 @@ abbrev pub IsDroppedAt : List TrailItem → ℕ → Type 0
 IsDroppedAt trail at = at ≡ length (book_of trail)
 
 -- all that is promised of a table that this transaction was to drop
-pub record DropStep {D : Type 0} (told : D → Option Store) (faults : D → ℕ) (txn : TxnId) (table : TableId) (before now : House D) (result : Result ℕ ActFault) : Type 0 where
+pub record DropStep {D : Type 0} (told : D → Option Store) (faults : D → ℕ) (txn : TxnId) (table : TableId)
+    (before now : House D) (result : Result ℕ ActFault) : Type 0 where
   pub keeps : IsWholeOrClosed told now
-  pub step : Step told faults (answer_call (Note (entry.Drop txn table)) result) (answer_outcome result) (seen_of before) (seen_of now)
-  pub answers : Answers NoTest (trail_of before.trail) txn (CanDrop (trail_of before.trail) txn table) (IsDroppedAt (trail_of before.trail)) result
+  pub step : Step told faults (answer_call (Note (entry.Drop txn table)) result) (answer_outcome result)
+      (seen_of before) (seen_of now)
+  pub answers : Answers NoTest (trail_of before.trail) txn (CanDrop (trail_of before.trail) txn table)
+      (IsDroppedAt (trail_of before.trail)) result
   pub leaves : AnswerLeaves told faults txn.0 (seen_of before) (seen_of now) result

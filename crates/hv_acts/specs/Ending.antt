@@ -66,6 +66,7 @@ EndAnswers house txn (Ok told) = HasTold house txn told
 EndAnswers house txn (Err why) = IsFindWhy house.closed why
 
 -- all that is promised of an end that was to be told: the house was only asked
-pub record EndStep {D : Type 0} (told : D → Option Store) (faults : D → ℕ) (txn : TxnId) (house : House D) (result : Result (Option EndTold) ActFault) : Type 0 where
+pub record EndStep {D : Type 0} (told : D → Option Store) (faults : D → ℕ) (txn : TxnId) (house : House D)
+    (result : Result (Option EndTold) ActFault) : Type 0 where
   pub step : Step told faults Ask (answer_outcome result) (seen_of house) (seen_of house)
   pub answers : EndAnswers (seen_of house) txn result

@@ -28,7 +28,8 @@ use Rattle.hv_acts.specs.Aborting.{is_full}
 
 -- what is to be noted: the write id, or an abort where there is no room for it
 unfoldable pub to_give : List TrailItem → TxnId → TableId → Entry
-to_give trail txn table = if is_full (state_at trail) then entry.Abort txn cause.Full else entry.Given txn table (next_id trail table)
+to_give trail txn table = if is_full (state_at trail) then entry.Abort txn cause.Full else entry.Given txn table
+    (next_id trail table)
 
 abbrev pub call_to_give : List TrailItem → TxnId → TableId → Result Given ActFault → Call
 call_to_give trail txn table (Ok (given.Id write)) = Note (entry.Given txn table (next_id trail table))
@@ -62,9 +63,11 @@ GiveAnswers trail txn table (Ok (given.Aborted aborted)) = IsAbortedFull trail t
 GiveAnswers trail txn table (Err why) = IsWhy NoTest trail txn (RestsOnId trail txn table) why
 
 -- all that is promised of a write id that was to be given
-pub record GiveStep {D : Type 0} (told : D → Option Store) (faults : D → ℕ) (txn : TxnId) (table : TableId) (before now : House D)
+pub record GiveStep {D : Type 0} (told : D → Option Store) (faults : D → ℕ) (txn : TxnId) (table : TableId)
+    (before now : House D)
     (result : Result Given ActFault) : Type 0 where
   pub keeps : IsWholeOrClosed told now
-  pub step : Step told faults (call_to_give (trail_of before.trail) txn table result) (answer_outcome result) (seen_of before) (seen_of now)
+  pub step : Step told faults (call_to_give (trail_of before.trail) txn table result) (answer_outcome result)
+      (seen_of before) (seen_of now)
   pub answers : GiveAnswers (trail_of before.trail) txn table result
   pub leaves : AnswerLeaves told faults txn.0 (seen_of before) (seen_of now) result

@@ -57,7 +57,8 @@ pub record IsShutNow {D : Type 0} (told : D → Option Store) (txn : ℕ) (now :
   pub same : trail_in now ≡ trail_in house
   pub cut : IsCutShort told txn (seen_in house) (seen_in now)
 
-abbrev pub HaltsFor : {D : Type 0} → (D → Option Store) → (ToldHouse D → ToldHouse D → Type 0) → ℕ → ToldHouse D → HouseFault → Type 0
+abbrev pub HaltsFor : {D : Type 0} → (D → Option Store) → (ToldHouse D → ToldHouse D → Type 0) → ℕ → ToldHouse D
+    → HouseFault → Type 0
 HaltsFor told meanwhile txn now fault.Store = IsShutBetween meanwhile ⊎ IsShutNow told txn now
 HaltsFor told meanwhile txn now fault.NoMemory = IsOpenHouse now
 HaltsFor told meanwhile txn now (fault.Failed count) = ⊥

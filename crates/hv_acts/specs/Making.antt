@@ -30,8 +30,11 @@ pub record IsMadeAt (trail : List TrailItem) (made : Made) : Type 0 where
   pub place : made.at ≡ length (book_of trail)
 
 -- all that is promised of a table that this transaction was to make
-pub record MakeStep {D : Type 0} (told : D → Option Store) (faults : D → ℕ) (txn : TxnId) (before now : House D) (result : Result Made ActFault) : Type 0 where
+pub record MakeStep {D : Type 0} (told : D → Option Store) (faults : D → ℕ) (txn : TxnId) (before now : House D)
+    (result : Result Made ActFault) : Type 0 where
   pub keeps : IsWholeOrClosed told now
-  pub step : Step told faults (answer_call (Note (entry.Create txn (next_table (trail_of before.trail)))) result) (answer_outcome result) (seen_of before) (seen_of now)
-  pub answers : Answers NoTest (trail_of before.trail) txn (MakeFits (trail_of before.trail) txn) (IsMadeAt (trail_of before.trail)) result
+  pub step : Step told faults (answer_call (Note (entry.Create txn (next_table (trail_of before.trail)))) result)
+      (answer_outcome result) (seen_of before) (seen_of now)
+  pub answers : Answers NoTest (trail_of before.trail) txn (MakeFits (trail_of before.trail) txn)
+      (IsMadeAt (trail_of before.trail)) result
   pub leaves : AnswerLeaves told faults txn.0 (seen_of before) (seen_of now) result

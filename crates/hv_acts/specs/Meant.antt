@@ -118,7 +118,8 @@ IsDropMeant trail txn table = HasMeant trail txn [] (Unmake table)
 -- Its statement means what the abort says, whatever others add: so it is true wherever it fits. An abort for want of room, for a lock or for
 -- a conflict is tested in one hold, and isn't asked for.
 abbrev pub IsAbortDue : List TrailItem → TxnId → Cause → Type 0
-IsAbortDue trail txn (cause.Refused number) = (why : Refusal) × (number ≡ refusals.number why) × HasMeant trail txn [] (Refused why)
+IsAbortDue trail txn (cause.Refused number) = (why : Refusal) × (number ≡ refusals.number why)
+    × HasMeant trail txn [] (Refused why)
 IsAbortDue trail txn (cause.Twice partition row) = HasMeant trail txn [] (Twice partition row)
 IsAbortDue trail txn cause.RowLimit = HasMeant trail txn [] RowLimit
 IsAbortDue trail txn cause.PartitionLimit = HasMeant trail txn [] PartitionLimit

@@ -70,13 +70,17 @@ IsInItsWay trail txn cause.Full = Of (state_at trail) txn.0 (IsShort (state_at t
 IsInItsWay trail txn why = ⊥
 
 abbrev pub StartOrAbortAnswers : List TrailItem → TxnId → Result Started ActFault → Type 0
-StartOrAbortAnswers trail txn (Ok (started.At place)) = EntryFits trail (entry.Start txn 0) × (place ≡ length (book_of trail))
-StartOrAbortAnswers trail txn (Ok (started.Aborted aborted)) = IsAbortedAt trail aborted × IsInItsWay trail txn aborted.cause
+StartOrAbortAnswers trail txn (Ok (started.At place)) = EntryFits trail (entry.Start txn 0)
+    × (place ≡ length (book_of trail))
+StartOrAbortAnswers trail txn (Ok (started.Aborted aborted)) = IsAbortedAt trail aborted
+    × IsInItsWay trail txn aborted.cause
 StartOrAbortAnswers trail txn (Err why) = IsWhy NoTest trail txn (RestsOnStart trail txn) why
 
 -- all that is promised of a transaction that was to start or be aborted
-pub record StartOrAbortStep {D : Type 0} (told : D → Option Store) (faults : D → ℕ) (txn : TxnId) (before now : House D) (result : Result Started ActFault) : Type 0 where
+pub record StartOrAbortStep {D : Type 0} (told : D → Option Store) (faults : D → ℕ) (txn : TxnId) (before now : House D)
+    (result : Result Started ActFault) : Type 0 where
   pub keeps : IsWholeOrClosed told now
-  pub step : Step told faults (call_to_start (trail_of before.trail) txn result) (answer_outcome result) (seen_of before) (seen_of now)
+  pub step : Step told faults (call_to_start (trail_of before.trail) txn result) (answer_outcome result)
+      (seen_of before) (seen_of now)
   pub answers : StartOrAbortAnswers (trail_of before.trail) txn result
   pub leaves : AnswerLeaves told faults txn.0 (seen_of before) (seen_of now) result

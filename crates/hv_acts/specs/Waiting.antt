@@ -26,7 +26,8 @@ abbrev pub next_txn : List TrailItem → TxnId
 next_txn trail = record { 0 = next_number (book_of trail) }
 
 abbrev pub next_opened : List TrailItem → List ℕ → ℕ → List ℕ → Entry
-next_opened trail session number text = opening (book_of trail) (record { session = session; number = number; text = text })
+next_opened trail session number text = opening (book_of trail)
+    (record { session = session; number = number; text = text })
 
 -- why it wasn't opened: there is no room for its Opened and the entry that ends it, or the house's call failed
 abbrev pub IsOpenWhy : List TrailItem → ActFault → Type 0
@@ -40,12 +41,15 @@ OpenAnswers trail (Ok txn) = HasRoom profile (state_at trail) 2 × (txn ≡ next
 OpenAnswers trail (Err why) = IsOpenWhy trail why
 
 -- the journal of a house that was open reads to the book still, or to the book and its Opened, which fits
-pub record IsOpeningCut {D : Type 0} (told : D → Option Store) (asking : Asking) (before now : HouseSeen D) : Type 0 where
+pub record IsOpeningCut {D : Type 0} (told : D → Option Store) (asking : Asking)
+    (before now : HouseSeen D) : Type 0 where
   pub fits : EntryFits before.trail (opening (book_of before.trail) asking)
   pub leaves : Leaves fault.Store (opening (book_of before.trail) asking ∷ []) (told now.shelf) (book_of before.trail)
 
-abbrev pub OpenLeaves : {D : Type 0} → (D → Option Store) → (D → ℕ) → Asking → HouseSeen D → HouseSeen D → Result TxnId ActFault → Type 0
-OpenLeaves told faults asking before now (Err (act.House fault.Store)) = before.closed ≡ false → IsOpeningCut told asking before now × Rose (faults before.shelf) (faults now.shelf)
+abbrev pub OpenLeaves : {D : Type 0} → (D → Option Store) → (D → ℕ) → Asking → HouseSeen D → HouseSeen D
+    → Result TxnId ActFault → Type 0
+OpenLeaves told faults asking before now (Err (act.House fault.Store)) = before.closed ≡ false
+    → IsOpeningCut told asking before now × Rose (faults before.shelf) (faults now.shelf)
 OpenLeaves told faults asking before now answer = before.closed ≡ false
 
 -- all that is promised of a transaction that was to be opened
@@ -81,8 +85,10 @@ pub record StartAnswers (trail : List TrailItem) (txn : TxnId) (answer : Result 
   pub held : (by : TxnId) → IsHeld trail txn by → TellsHolder by answer
 
 -- all that is promised of a transaction that was to start
-pub record StartStep {D : Type 0} (told : D → Option Store) (faults : D → ℕ) (txn : TxnId) (before now : House D) (result : Result ℕ ActFault) : Type 0 where
+pub record StartStep {D : Type 0} (told : D → Option Store) (faults : D → ℕ) (txn : TxnId) (before now : House D)
+    (result : Result ℕ ActFault) : Type 0 where
   pub keeps : IsWholeOrClosed told now
-  pub step : Step told faults (answer_call (Note (entry.Start txn 0)) result) (answer_outcome result) (seen_of before) (seen_of now)
+  pub step : Step told faults (answer_call (Note (entry.Start txn 0)) result) (answer_outcome result) (seen_of before)
+      (seen_of now)
   pub answers : StartAnswers (trail_of before.trail) txn result
   pub leaves : AnswerLeaves told faults txn.0 (seen_of before) (seen_of now) result

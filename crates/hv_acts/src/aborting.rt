@@ -69,7 +69,8 @@ impl<D: Shelf + Drop> Act<D, ToldHouse<D>> for AbortFor {
 
     ghost does = { λ act house now answer. Answers NoTest house.trail act.txn
         (EntryFits house.trail (entry.Abort act.txn act.cause))
-        (λ (place : ℕ). place ≡ length (book_of house.trail)) answer × AnswerLeaves D.told D.faults act.txn.0 house now answer };
+        (λ (place : ℕ). place ≡ length (book_of house.trail)) answer
+        × AnswerLeaves D.told D.faults act.txn.0 house now answer };
 
     fn act(self, _alloc: Global, house: &mut ToldHouse<D>) -> Result<u64, ActFault> {
         if house.house.is_closed() {

@@ -61,7 +61,8 @@ impl<D: Shelf + Drop> Act<D, ToldHouse<D>> for DropTable {
 
     ghost adds = { λ act answer. adds_entry (drop_of act.txn act.table) answer };
 
-    ghost does = { λ act house now answer. Answers NoTest house.trail act.txn (CanDrop house.trail act.txn act.table) (IsDroppedAt house.trail) answer
+    ghost does = { λ act house now answer. Answers NoTest house.trail act.txn (CanDrop house.trail act.txn act.table)
+        (IsDroppedAt house.trail) answer
         × AnswerLeaves D.told D.faults act.txn.0 house now answer };
 
     fn act(self, _alloc: Global, house: &mut ToldHouse<D>) -> Result<u64, ActFault> {

@@ -10,7 +10,7 @@ use hv_shelf::{Place, Shelf};
 use hv_telling::hv_house::{GetFault, House, HouseFault};
 use std::alloc::Global;
 
-/// Gets, for a transaction, the bytes of the file at a place.
+/// Gets, for a transaction that has not ended, the bytes of the file at a place.
 #[derive(Drop)]
 pub struct GetFile<'a> {
     pub by: TxnId,
@@ -48,7 +48,7 @@ impl<'a, D: Shelf + Drop> Act<D, ToldHouse<D>> for GetFile<'a> {
 
     ghost adds = { λ act answer. adds_getting act.by answer };
 
-    ghost does = { λ act house now answer. GetAnswers D.told house act.place.now answer
+    ghost does = { λ act house now answer. GetAnswers D.told house act.by act.place.now answer
         × GetLeaves D.told D.faults act.by.0 house now answer × IfErr answer (GetRises D.faults house) };
 
     fn act(self, alloc: Global, house: &mut ToldHouse<D>) -> Result<Vec<u8>, GetFault> {

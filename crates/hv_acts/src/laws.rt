@@ -31,13 +31,15 @@ pub fn what_is_asked_lasts()
         → HasItsMark before txn cause → HasItsMark now txn cause }
     ensures id { (before now : List TrailItem) (by : TxnId) (place : Place) (file : OutFile) → IsFront before now
         → HasIdFor before by place file → HasIdFor now by place file }
-    ensures put { (before now : List TrailItem) (txn : TxnId) (wrote : List Touch) (places : List Place) → IsFront before now
+    ensures put { (before now : List TrailItem) (txn : TxnId) (wrote : List Touch) (places : List Place)
+        → IsFront before now
         → CanBePut before txn wrote places → CanBePut now txn wrote places }
     ensures due { (before now : List TrailItem) (txn : TxnId) (table : TableId) → IsFront before now
         → IsIdDue before txn table → IsIdDue now txn table }
     ensures file { (before now : List TrailItem) (by : TxnId) (place : Place) (file : OutFile) → IsFront before now
         → IsFileMeant before by place file → IsFileMeant now by place file }
-    ensures commit { (before now : List TrailItem) (txn : TxnId) (wrote : List Touch) (places : List Place) → IsFront before now
+    ensures commit { (before now : List TrailItem) (txn : TxnId) (wrote : List Touch) (places : List Place)
+        → IsFront before now
         → IsCommitDue before txn wrote places → IsCommitDue now txn wrote places }
     ensures make { (before now : List TrailItem) (txn : TxnId) → IsFront before now
         → IsMakeMeant before txn → IsMakeMeant now txn }
@@ -64,12 +66,14 @@ pub fn what_is_open_stays_open()
 pub fn what_was_meant_is_meant()
     ensures begun { (trail : List TrailItem) (asking : Asking) (said : Stmt) (means : Meaning) → Runs asking.text said
         → meant (book_of trail ++ opening (book_of trail) asking ∷ []) said ≡ Some means
-        → MeansNow (trail ++ map Noted (begun (record { 0 = next_number (book_of trail) }) asking.session asking.number asking.text))
+        → MeansNow (trail ++ map Noted (begun (record { 0 = next_number (book_of trail) }) asking.session asking.number
+        asking.text))
         (record { 0 = next_number (book_of trail) }) [] means }
     ensures started { (trail : List TrailItem) (asking : Asking) (txn : TxnId) (said : Stmt) (means : Meaning)
         → IsWaiting (book_of trail) asking txn.0 said → meant (book_of trail) said ≡ Some means
         → MeansNow (trail ++ Noted (entry.Start txn 0) ∷ []) txn [] means }
-    ensures given { (trail : List TrailItem) (txn : TxnId) (table : TableId) (write : WriteId) (given : List (ℕ × ℕ)) (means : Meaning)
+    ensures given { (trail : List TrailItem) (txn : TxnId) (table : TableId) (write : WriteId) (given : List (ℕ × ℕ))
+        (means : Meaning)
         → MeansNow trail txn given means
         → MeansNow (trail ++ Noted (entry.Given txn table write) ∷ []) txn (given ++ (table.0, write.0) ∷ []) means }
     ensures still { (trail : List TrailItem) (txn : TxnId) (given : List (ℕ × ℕ)) (means : Meaning)

@@ -42,6 +42,7 @@ pub use opening::{Begin, Begun};
 pub use putting::PutFile;
 pub use reading::{
     places_last, what_was_found_is_there, what_was_listed_is_got, what_was_listed_stands,
+    who_is_under_way_reads,
 };
 pub use requesting::AskAbort;
 pub use showing::ShowBook;

@@ -1,22 +1,35 @@
+ghost use Rattle.std.specs.Prelude.{◌≡◌};
+ghost use Rattle.hv_trail.specs.Kept.{trail_of};
 ghost use Rattle.hv_telling.specs.hv_house.specs.Housed.{ShutsHard};
 ghost use Rattle.hv_telling.specs.hv_house.specs.Steps.{seen_of};
 ghost use Rattle.hv_telling.specs.Telling.{IsWhole};
-ghost use Rattle.hv_acts.specs.Reading.{ListStep};
+ghost use Rattle.hv_acts.specs.Reading.{ListStep, ReadsTable, of_list};
 
 use crate::fault::ActFault;
 use crate::told::ToldHouse;
 use hv_actor::Act;
 use hv_base::{TableId, TxnId};
 use hv_shelf::Shelf;
-use hv_telling::hv_house::{House, HouseFault, Listing};
+use hv_telling::hv_house::{House, HouseFault, ListFault, Listing};
 use std::alloc::Global;
 
-/// Lists, for a transaction, the files of a table that are taken under the list of its write ids at a place of the book.
+/// Lists, for a transaction that has not ended, the files of a table that are taken under the list of its write ids at the place of the
+/// transaction's snapshot.
 #[derive(Drop)]
 pub struct ListTable {
     pub by: TxnId,
     pub place: u64,
     pub table: TableId,
+}
+
+/// Why the house listed nothing, as the act answers it.
+fn act_fault(why: ListFault) -> ActFault
+    ensures fault { result ≡ of_list why }
+{
+    match why {
+        ListFault::NotOpen { at } => ActFault::Ended { at },
+        ListFault::House(fault) => ActFault::House(fault),
+    }
 }
 
 fn list_table<D: Shelf>(
@@ -28,13 +41,14 @@ fn list_table<D: Shelf>(
 ) -> Result<Listing, ActFault>
     requires whole { IsWhole D.told house.old }
     requires hard { ShutsHard D.hard (seen_of house.old) }
+    requires reads { ReadsTable (trail_of house.old.trail) by place table.0 }
     ensures listed { ListStep D.told D.faults (record { by = by; place = place; table = table }) house.old house.new
         result }
     ensures hard { ShutsHard D.hard (seen_of house.new) }
 {
     match house.list(alloc, by, place, table) {
         Ok(listing) => Ok(listing),
-        Err(fault) => Err(ActFault::House(fault)),
+        Err(why) => Err(act_fault(why)),
     }
 }
 
@@ -43,11 +57,11 @@ impl<D: Shelf + Drop> Act<D, ToldHouse<D>> for ListTable {
     ghost use Rattle.hv_trail.specs.declared.trail.Reader.TheVariants.{Txn};
     ghost use Rattle.hv_trail.specs.Steps.{Read};
     ghost use Rattle.hv_acts.specs.Answers.{answer_outcome, AnswerLeaves, WhyRises};
-    ghost use Rattle.hv_acts.specs.Reading.{HasPlace, ListAnswers, adds_listing};
+    ghost use Rattle.hv_acts.specs.Reading.{ReadsTable, ListAnswers, adds_listing};
 
     type Answer = Result<Listing, ActFault>;
 
-    ghost can = { λ act house. HasPlace house.trail act.place };
+    ghost can = { λ act house. ReadsTable house.trail act.by act.place act.table.0 };
 
     ghost call = { λ act house answer. Read (Some (Txn act.by)) };
 
@@ -55,7 +69,7 @@ impl<D: Shelf + Drop> Act<D, ToldHouse<D>> for ListTable {
 
     ghost adds = { λ act answer. adds_listing act.by answer };
 
-    ghost does = { λ act house now answer. ListAnswers D.told house act.place act.table answer
+    ghost does = { λ act house now answer. ListAnswers D.told house act.by act.place act.table answer
         × AnswerLeaves D.told D.faults act.by.0 house now answer × IfErr answer (WhyRises D.faults house) };
 
     fn act(self, alloc: Global, house: &mut ToldHouse<D>) -> Result<Listing, ActFault> {

@@ -75,7 +75,8 @@ impl<D: Shelf + Drop> Act<D, ToldHouse<D>> for MakeTable {
 
     ghost adds = { λ act answer. adds_entry (create_of act.txn) answer };
 
-    ghost does = { λ act house now answer. Answers NoTest house.trail act.txn (MakeFits house.trail act.txn) (IsMadeAt house.trail) answer
+    ghost does = { λ act house now answer. Answers NoTest house.trail act.txn (MakeFits house.trail act.txn)
+        (IsMadeAt house.trail) answer
         × AnswerLeaves D.told D.faults act.txn.0 house now answer };
 
     fn act(self, _alloc: Global, house: &mut ToldHouse<D>) -> Result<Made, ActFault> {

@@ -4,7 +4,7 @@ ghost use Rattle.hv_history.specs.declared.entry.Entry.TheVariants as entry;
 ghost use Rattle.hv_history.specs.declared.entry.Cause.TheVariants as cause;
 ghost use Rattle.hv_history.specs.Book.{tree_of_entry};
 ghost use Rattle.hv_history.specs.Legal.{Of, FullFits, profile};
-ghost use Rattle.hv_fits.specs.Texts.{IsHanded};
+ghost use Rattle.hv_showing.specs.hv_fits.specs.Texts.{IsHanded};
 ghost use Rattle.hv_stands.specs.Running.{IsOf, IsOwnCause};
 ghost use Rattle.hv_trail.specs.Trail.{book_of, state_at};
 ghost use Rattle.hv_trail.specs.Kept.{trail_of};

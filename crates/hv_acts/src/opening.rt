@@ -91,7 +91,8 @@ impl<D: Shelf + Drop> Act<D, ToldHouse<D>> for Begin {
     ghost adds = { λ act answer. adds_beginning act.session act.number act.text answer };
 
     ghost does = { λ act house now answer. BeginAnswers house.trail act.tree answer
-        × BeginLeaves D.told D.faults (record { session = act.session; number = act.number; text = act.text }) house now answer };
+        × BeginLeaves D.told D.faults (record { session = act.session; number = act.number; text = act.text }) house now
+        answer };
 
     fn act(self, _alloc: Global, house: &mut ToldHouse<D>) -> Result<Begun, BeginFault> {
         if house.house.is_closed() {

@@ -281,14 +281,17 @@ impl<D: Shelf + Drop> Act<D, ToldHouse<D>> for OpenTransaction {
 
     ghost can = { λ act house. Runs act.text act.tree × (length act.text ≤ 32768) × (length act.session ≤ 32) };
 
-    ghost call = { λ act house answer. answer_call (Note (next_opened house.trail act.session act.number act.text)) answer };
+    ghost call = { λ act house answer. answer_call (Note (next_opened house.trail act.session act.number act.text))
+        answer };
 
     ghost outcome = { λ act answer. answer_outcome answer };
 
-    ghost adds = { λ act answer. adds_entry (λ (txn : TxnId). entry.Opened txn act.session act.number act.text) answer };
+    ghost adds = { λ act answer.
+        adds_entry (λ (txn : TxnId). entry.Opened txn act.session act.number act.text) answer };
 
     ghost does = { λ act house now answer. OpenAnswers house.trail answer
-        × OpenLeaves D.told D.faults (record { session = act.session; number = act.number; text = act.text }) house now answer };
+        × OpenLeaves D.told D.faults (record { session = act.session; number = act.number; text = act.text }) house now
+        answer };
 
     fn act(self, _alloc: Global, house: &mut ToldHouse<D>) -> Result<TxnId, ActFault> {
         if house.house.is_closed() {

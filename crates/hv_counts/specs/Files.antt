@@ -1,6 +1,6 @@
 -- Whether the files that are read of a table, by the files that are chosen under a list of its write ids, have as many records as its
 -- commits say.
-use Rattle.std.specs.Prelude.{◌≡◌, Bool, List, map}
+use Rattle.std.specs.Prelude.{◌≡◌, Bool, false, List, map}
 use Rattle.std.specs.List.{AllByRecursion}
 use Rattle.hv_shelf.specs.declared.place.Place.{Place}
 use Rattle.hv_shelf.specs.Disk.{Tree, places_of}
@@ -23,22 +23,24 @@ pub record AreSheets (deletes : Bool) (info : TableInfo) (list : WriteIds) (file
   pub files_are : map sheet_file sheets ≡ files_taken deletes list named
   pub each : AllByRecursion (IsSheet deletes files) sheets
 
--- they were read and have so many records, where all stand in own directories
+-- They were read and have so many records, where all stand in own directories, and the files of the rows, too: a base that is taken covers
+-- deletes that aren't.
 pub record HasCounts (deletes : Bool) (info : TableInfo) (list : WriteIds) (files : Tree) (dues : List Due) : Type 0 where
   pub sheets : List Sheet
   pub read : AreSheets deletes info list files sheets
-  pub counted : AreOwn (map sheet_file sheets) → IsCounted deletes dues sheets
+  pub counted : AreOwn (map sheet_file sheets) → AreOwn (files_taken false list read.named) → IsCounted deletes dues sheets
 
 -- those of both kinds
 abbrev pub AreCountedBoth : TableInfo → WriteIds → Tree → List Due → Type 0
 AreCountedBoth info list files dues = (deletes : Bool) → HasCounts deletes info list files dues
 
--- those of a kind were read, stand in own directories and don't have so many records
+-- those of a kind were read, stand in own directories beside rows that do, and don't have so many records
 pub record IsUncounted (info : TableInfo) (list : WriteIds) (files : Tree) (dues : List Due) : Type 0 where
   pub deletes : Bool
   pub sheets : List Sheet
   pub read : AreSheets deletes info list files sheets
   pub own : AreOwn (map sheet_file sheets)
+  pub beside : AreOwn (files_taken false list read.named)
   pub differ : IsCounted deletes dues sheets → ⊥
 
 -- what is told of them
@@ -46,6 +48,7 @@ pub record IsToldUncounted (info : TableInfo) (list : WriteIds) (files : Tree) (
   pub deletes : Bool
   pub sheets : List Sheet
   pub read : AreSheets deletes info list files sheets
+  pub beside : AreOwn (files_taken false list read.named)
   pub place : Place
   pub place_is : told ≡ told_place place told.at
   pub miscounted : IsMiscounted deletes info.table.0 dues sheets place told.at

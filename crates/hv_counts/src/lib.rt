@@ -13,4 +13,4 @@ mod tally;
 pub use counted::Counted;
 pub use due::Due;
 pub use dues::dues_at;
-pub use miscount::{Miscount, first_miscount};
+pub use miscount::{Miscount, are_own, first_miscount};

@@ -35,7 +35,7 @@ fn is_own(dir: Dir) -> bool
 }
 
 /// Whether each of these files stands in an own directory.
-fn are_own(files: &[DirFile]) -> bool
+pub fn are_own(files: &[DirFile]) -> bool
     ensures { result ≡ list_all is_own_file files.now }
 {
     for file in files {

@@ -173,8 +173,8 @@ fn add_summed<'a>(
     }
 }
 
-// The rows of groups.
-fn rows_shown<'a>(
+/// The rows of groups of which sums are kept.
+pub fn rows_shown<'a>(
     alloc: Global,
     lifted: &Lifted,
     groups: &[Summed],
@@ -242,7 +242,7 @@ fn rows_of_all<'a>(
 }
 
 /// The items over each group for which HAVING holds, as far as they are wanted. All rows as one group stand as they are.
-pub(crate) fn grouped_rows<'a>(
+pub fn grouped_rows<'a>(
     alloc: Global,
     items: &'a [TypedExpr],
     grouping: &'a Grouping,

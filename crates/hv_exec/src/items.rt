@@ -25,7 +25,7 @@ fn keep_if<'a>(kept: &mut Vec<Frame<'a>>, frame: Frame<'a>, keeps: bool) -> Resu
 }
 
 /// The rows on which a condition is true.
-pub(crate) fn filtered<'a>(
+pub fn filtered<'a>(
     alloc: Global,
     condition: &'a Option<Boxed<TypedExpr>>,
     frames: Vec<Frame<'a>>,
@@ -72,7 +72,7 @@ fn add_row<'a>(
 }
 
 /// The items on each row by itself, as far as they are wanted.
-pub(crate) fn item_rows<'a>(
+pub fn item_rows<'a>(
     alloc: Global,
     items: &'a [TypedExpr],
     frames: &'a [Frame<'a>],

@@ -4,9 +4,9 @@ ghost use Rattle.hv_order.specs.First.{IsEnough};
 ghost use Rattle.hv_typing.specs.Rows.{kept, shown};
 ghost use Rattle.hv_exec.specs.Tables.{select_rows};
 
+use crate::distinct::once;
 use crate::groups::grouped_rows;
 use crate::items::{filtered, item_rows};
-use crate::once::once;
 use hv_base::NoMemory;
 use hv_eval::Frame;
 use hv_expr::TypedExpr;

@@ -2,7 +2,7 @@ ghost use Rattle.std.specs.Prelude.{◌≡◌, ◌++◌, IfOk, OnOk, if◌then�
 ghost use Rattle.hv_typing.specs.Grouped.{distinct};
 ghost use Rattle.hv_typing.specs.Rows.{same_row};
 
-use crate::once::once;
+use crate::distinct::once;
 use hv_base::NoMemory;
 use hv_value::Row;
 use std::alloc::Global;
@@ -20,12 +20,7 @@ fn both(mut first: Vec<Row>, second: Vec<Row>) -> Result<Vec<Row>, NoMemory>
 }
 
 /// The rows of a select behind those that were found, each once unless all are asked for.
-pub(crate) fn with(
-    alloc: Global,
-    found: Vec<Row>,
-    more: Vec<Row>,
-    all: bool,
-) -> Result<Vec<Row>, NoMemory>
+pub fn with(alloc: Global, found: Vec<Row>, more: Vec<Row>, all: bool) -> Result<Vec<Row>, NoMemory>
     ensures { IfOk result (λ rows. rows.items ≡ (if all then found.items ++ more.items else distinct same_row (found.items ++ more.items))) }
 {
     let rows = both(found, more)?;

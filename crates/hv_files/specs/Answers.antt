@@ -8,17 +8,12 @@ use Rattle.hv_shelf.specs.Causes.{last_count}
 use Rattle.hv_shelf.specs.declared.fault.ShelfFault.{ShelfFault}
 use Rattle.hv_shelf.specs.declared.fault.ShelfFault.TheVariants as shelf
 use Rattle.hv_files.specs.declared.counts.Counts.{Counts}
-use Rattle.hv_files.specs.declared.fault.FileFault.{FileFault}
-use Rattle.hv_files.specs.declared.fault.FileFault.TheVariants.{Device, NoMemory}
+use Rattle.hv_paths.specs.declared.fault.FileFault.{FileFault}
+use Rattle.hv_paths.specs.declared.fault.FileFault.TheVariants.{Device, NoMemory}
 
 abbrev pub shelf_fault_of : FileFault → ShelfFault
 shelf_fault_of (Device cause) = shelf.Failed
 shelf_fault_of NoMemory = shelf.NoMemory
-
--- the system, or this store, refused the call
-abbrev pub IsDevice : FileFault → Type 0
-IsDevice (Device cause) = Unit {0}
-IsDevice NoMemory = ⊥
 
 abbrev pub answer_of : {T : Type 0} → Result T FileFault → Result T ShelfFault
 answer_of (Ok value) = Ok value

@@ -2,8 +2,8 @@ ghost use Rattle.std.specs.Prelude.{◌≡◌, IsErr, IsErrOf};
 ghost use Rattle.hv_shelf.specs.Causes.{SoftCause, HardCause};
 ghost use Rattle.hv_files.specs.Answers.{counted_soft, counted_hard, answer_of, device_answer_of};
 
-use crate::fault::FileFault;
 use hv_base::{Failed, raise};
+use hv_paths::FileFault;
 use hv_shelf::ShelfFault;
 
 /// The counts of a store: all calls that failed, and those behind which it isn't to be used.

@@ -6,13 +6,12 @@ ghost use Rattle.hv_files.specs.Acts.Act.{Gives, Moves, TakesFolder, WritesJourn
 ghost use Rattle.hv_paths.specs.Paths.{tables_path, file_path, working_path, path_of_dir, dir_of};
 
 use crate::counts::Counts;
-use crate::fault::{Cause, FileFault};
 use crate::home::Home;
 use crate::real::RealFiles;
 use crate::system::System;
 use crate::tree::Tree;
 use hv_base::{Failed, TableId, Text};
-use hv_paths::tables_path;
+use hv_paths::{Cause, FileFault, tables_path};
 use hv_shelf::{DirAt, Place, Shelf, ShelfFault};
 use std::alloc::Global;
 use std::fs::File;

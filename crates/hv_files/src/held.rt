@@ -2,9 +2,8 @@
 ghost use Rattle.std.specs.Prelude.{◌≤◌, length, IfOk};
 
 use crate::asked::Part;
-use crate::fault::{Cause, FileFault, cause_of};
 use hv_base::NoMemory;
-use hv_paths::path_in;
+use hv_paths::{Cause, FileFault, cause_of, path_in};
 use std::alloc::{AllocError, Global};
 use std::fs::{File, Metadata, TryLockError};
 use std::io::{ErrorKind, Read, Write};

@@ -5,12 +5,10 @@ ghost use Rattle.hv_files.specs.Acts.Act.{Finds};
 ghost use Rattle.hv_files.specs.Parts.{part_path};
 
 use crate::asked::{Change, Part};
-use crate::fault::{Cause, FileFault};
 use crate::system::{Stand, System};
 use hv_base::NoMemory;
-use hv_paths::{is_table, journal_path, lock_path, path_in, tables_path};
+use hv_paths::{Cause, FileFault, above, is_table, journal_path, lock_path, path_in, tables_path};
 use std::alloc::Global;
-use std::path::Path;
 
 /// The most bytes of the folder's path: the system takes 4,095, and 512 are kept for the longest name
 /// below the folder.
@@ -27,14 +25,6 @@ pub struct Home {
     whole: bool,
     /// Making it failed, perhaps at a sync.
     failed: bool,
-}
-
-/// The path of the folder above, which for a lone name is the working folder.
-fn above(path: &str) -> &str {
-    match Path::new(path).parent() {
-        Some(above) if !above.as_str().is_empty() => above.as_str(),
-        _ => ".",
-    }
 }
 
 /// Looks at the folder in which a store's folder is to be made, which a link may lead to.

@@ -4,9 +4,8 @@ ghost use Rattle.hv_files.specs.Acts.{Keeps};
 ghost use Rattle.hv_files.specs.Acts.Act.{SyncsFolder};
 
 use crate::asked::Change;
-use crate::fault::{Cause, FileFault};
 use crate::system::{Stand, System};
-use hv_paths::path_in;
+use hv_paths::{Cause, FileFault, path_in};
 use std::alloc::Global;
 use std::collections::BTreeSet;
 

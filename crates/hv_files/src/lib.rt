@@ -7,18 +7,16 @@
 
 mod asked;
 mod counts;
-mod fault;
 mod file_shelf;
 mod held;
 mod home;
 mod known;
-mod paths;
 mod real;
 mod system;
 mod tree;
 
 pub use asked::{Change, Part};
-pub use fault::{Cause, FileFault};
 pub use file_shelf::FileShelf;
+pub use hv_paths::{Cause, FileFault};
 pub use real::RealFiles;
 pub use system::{Stand, System};

@@ -1,12 +1,12 @@
 //! The system's own files. Each call goes on where a signal interrupts it.
 use crate::asked::{Change, Part};
-use crate::fault::{Cause, FileFault, cause_of};
 use crate::held::{
     Held, above_streams, as_seen, held_metadata, is_same, locked, read_at, read_seen, synced,
     test_kind, write_synced,
 };
 use crate::system::{Stand, System};
 use hv_base::NoMemory;
+use hv_paths::{Cause, FileFault, cause_of};
 use std::alloc::Global;
 use std::fs::{self, File, Metadata, OpenOptions};
 use std::io::{ErrorKind, Read};

@@ -5,7 +5,7 @@ ghost use Rattle.hv_files.specs.Acts.Act.{SyncsFolder, Writes, Gives, Finds, Wri
 ghost use Rattle.hv_files.specs.Parts.{act_of};
 
 use crate::asked::{Change, Part};
-use crate::fault::FileFault;
+use hv_paths::FileFault;
 use std::alloc::Global;
 
 /// What stands at a path.

@@ -6,12 +6,13 @@ ghost use Rattle.hv_files.specs.Acts.Act.{Gives, Writes, Moves, TakesFolder};
 ghost use Rattle.hv_paths.specs.Paths.{file_path, working_path, path_of_dir, dir_path};
 
 use crate::asked::Change;
-use crate::fault::{Cause, FileFault};
 use crate::known::Known;
-use crate::paths::{dir_path, file_path, working_path};
 use crate::system::{Stand, System};
 use hv_base::{NoMemory, TableId, Text};
-use hv_paths::{Entry, entry_of, folders_of, is_ours, path_in, read_bucket, table_path};
+use hv_paths::{
+    Cause, Entry, FileFault, dir_path, entry_of, file_path, folders_of, is_ours, outer_of, path_in,
+    read_bucket, table_path, working_path,
+};
 use hv_shelf::{DirAt, Place};
 use std::alloc::Global;
 use std::collections::BTreeSet;
@@ -180,14 +181,6 @@ impl Tree {
                 .look_into(system, self.alloc, table, &folder, &mut left, &mut found)?;
         }
         Err(FileFault::Device(Cause::Other))
-    }
-}
-
-/// The folder in which the last name of a path stands.
-fn outer_of(path: &str) -> &str {
-    match path.rsplit_once('/') {
-        Some((outer, _)) => outer,
-        None => path,
     }
 }
 

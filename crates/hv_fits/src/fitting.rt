@@ -10,6 +10,9 @@ use hv_ast::Stmt;
 use hv_base::{Limits, Text, TxnId};
 use hv_book::Book;
 use hv_history::{Cause, Entry};
+use hv_job_fits::{
+    asked_fits, cleaned_fits, empty_fits, failed_fits, forgot_fits, picked_fits, published_fits,
+};
 use hv_meta::{
     boot_fits, commit_fits, conflict_fits, create_fits, drop_fits, fault_fits, full_fits,
     given_fits, is_running, is_unended, lost_fits, opened_fits,
@@ -68,9 +71,24 @@ fn is_fitting(book: &Book, limits: &Limits, entry: &Entry, tree: Option<&Stmt>) 
         Entry::Abort { txn, cause } => abort_fits(book, limits, *txn, cause),
         Entry::Create { txn, table } => create_fits(book, *txn, *table),
         Entry::Drop { txn, table } => drop_fits(book, *txn, *table),
-        Entry::Asked { .. } | Entry::Picked { .. } => false,
-        Entry::Published { .. } | Entry::Empty { .. } | Entry::Cleaned { .. } => false,
-        Entry::Failed { .. } | Entry::Forgot { .. } => false,
+        Entry::Asked {
+            job,
+            table,
+            partition,
+            kind,
+            by,
+        } => asked_fits(book, limits, *job, *table, partition, *kind, *by),
+        Entry::Picked { job, watermark } => picked_fits(book, limits, *job, *watermark),
+        Entry::Published {
+            job,
+            low,
+            high,
+            mark,
+        } => published_fits(book, *job, *low, *high, *mark),
+        Entry::Empty { job } => empty_fits(book, *job),
+        Entry::Cleaned { job } => cleaned_fits(book, limits, *job),
+        Entry::Failed { job, cause } => failed_fits(book, *job, cause),
+        Entry::Forgot { table, write } => forgot_fits(book, limits, *table, *write),
         Entry::Next { .. } | Entry::Did { .. } | Entry::Alter { .. } => false,
     }
 }

@@ -12,7 +12,8 @@ use Rattle.hv_history.specs.declared.state.Ending.{Ending}
 use Rattle.hv_history.specs.declared.state.Ending.TheVariants.{Committed}
 use Rattle.hv_history.specs.declared.state.Transaction.{Transaction}
 use Rattle.hv_history.specs.State.{State, Job, numbered}
-use Rattle.hv_history.specs.Legal.{is_open, is_working, one_if}
+use Rattle.hv_history.specs.Standing.{is_open}
+use Rattle.hv_history.specs.Load.{is_working, one_if}
 use Rattle.hv_history.specs.Thresholds.{delta_threshold, percent_threshold, is_behind_place}
 
 -- ---- how far a job has come

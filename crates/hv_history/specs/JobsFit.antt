@@ -1,4 +1,4 @@
--- Which of the entries of compaction and of forgetting fit a book, as they will among all entries.
+-- Which of the entries of compaction and of forgetting fit a book; specs/Legal has them among all entries.
 -- Source: Hive Transactions, compactor and cleaner.
 use Rattle.std.specs.Prelude.{if◌then◌else◌, ◌≡◌, ◌⊎◌, ◌↔◌, ℕ, ◌+◌, ◌==◌, ◌&&◌, nat_eq, Bool, true, false, IsTrue, IsFalse, IsSomeAnd, Option, Some, None, List, [], ◌∷◌, length}
 use Rattle.std.specs.Cmp.Lexicographic.{pointwise}
@@ -8,8 +8,6 @@ use Rattle.hv_ast.specs.declared.table.CompactionKind.{CompactionKind}
 use Rattle.hv_ast.specs.declared.table.CompactionKind.TheVariants as compaction
 use Rattle.hv_ast.specs.declared.statement.Stmt.{Stmt}
 use Rattle.hv_ast.specs.declared.statement.Stmt.TheVariants as stmt
-use Rattle.hv_history.specs.declared.entry.Entry.{Entry}
-use Rattle.hv_history.specs.declared.entry.Entry.TheVariants as entry
 use Rattle.hv_history.specs.declared.entry.JobKind.{JobKind}
 use Rattle.hv_history.specs.declared.entry.JobKind.TheVariants as kind
 use Rattle.hv_history.specs.declared.entry.JobCause.{JobCause}
@@ -18,8 +16,8 @@ use Rattle.hv_history.specs.declared.state.Ending.{Ending}
 use Rattle.hv_history.specs.declared.state.Ending.TheVariants.{Aborted}
 use Rattle.hv_history.specs.declared.state.Table.{Table}
 use Rattle.hv_history.specs.declared.state.Transaction.{Transaction}
-use Rattle.hv_history.specs.State.{State, Job, numbered, opening_tree, after}
-use Rattle.hv_history.specs.Legal.{HasRoom, IsRunning, Of, Fits, is_working}
+use Rattle.hv_history.specs.State.{State, Job, numbered, opening_tree}
+use Rattle.hv_history.specs.Load.{HasRoom, IsRunning, Of, is_working}
 use Rattle.hv_history.specs.Jobs.{is_initiated, is_ready, is_past, has_busy, watermark, pieces_for, is_empty_of, is_live_one}
 
 -- the job of that number is there, and the fact holds of it
@@ -123,19 +121,3 @@ pub record ForgotFits (limits : Limits) (state : State) (write : ℕ) (table : T
   pub aborted : IsTrue (is_aborted_id state.transactions (numbered table.owners write))
   pub kept : IsFalse (list_any (λ other. other == write) table.forgotten)
   pub room : HasRoom limits state 1
-
--- ---- all entries: these seven, and the others as they fit without them
-
-abbrev pub JobFits : Limits → State → Entry → Type 0
-JobFits limits state (entry.Asked job table partition kind by) = AskedFits limits state job.0 table.0 partition kind by
-JobFits limits state (entry.Picked job mark) = OfJob state job.0 (PickedFits limits state job.0 mark.0)
-JobFits limits state (entry.Published job low high mark) = OfJob state job.0 (PublishedFits state low.0 high.0 mark.0)
-JobFits limits state (entry.Empty job) = OfJob state job.0 (EmptyFits state)
-JobFits limits state (entry.Failed job cause) = OfJob state job.0 (FailedFits state cause)
-JobFits limits state (entry.Cleaned job) = OfJob state job.0 (CleanedFits limits state)
-JobFits limits state (entry.Forgot table write) = IsSomeAnd (numbered state.tables table.0) (ForgotFits limits state write.0)
-JobFits limits state event = Fits limits state event
-
-abbrev pub AllJobsFit : Limits → State → List Entry → Type 0
-AllJobsFit limits state [] = Unit {0}
-AllJobsFit limits state (event ∷ book) = JobFits limits state event × AllJobsFit limits (after state event) book

@@ -10,7 +10,8 @@ use Rattle.hv_history.specs.declared.entry.Cause.TheVariants as cause
 use Rattle.hv_history.specs.declared.entry.JobKind.{JobKind}
 use Rattle.hv_history.specs.declared.state.Transaction.{Transaction}
 use Rattle.hv_history.specs.State.{State, Job}
-use Rattle.hv_history.specs.Legal.{Of, is_started, place_of_snapshot}
+use Rattle.hv_history.specs.Standing.{is_started}
+use Rattle.hv_history.specs.Load.{Of, place_of_snapshot}
 use Rattle.hv_history.specs.Thresholds.{is_behind_place}
 use Rattle.hv_history.specs.Jobs.{is_kind, jobs_in, has_busy, mark_by}
 

@@ -2,7 +2,7 @@
 -- true of a store that somebody else wrote is a premise.
 -- Source: Hive Transactions (a transaction's states, locks, first committer wins); the journal and its room are this
 -- project's.
-use Rattle.std.specs.Prelude.{◌≡◌, ◌≢◌, ℕ, ◌+◌, ◌<◌, ◌≤◌, ◌==◌, ◌&&◌, Bool, true, false, not, if◌then◌else◌, nat_lt, IsTrue, IsFalse, ◌⊎◌, is_some, is_none, Option, Some, None, IsSome, IsNone, IsSomeAnd, List, [], ◌∷◌, length, sum_by}
+use Rattle.std.specs.Prelude.{◌≡◌, ◌≢◌, ℕ, ◌+◌, ◌<◌, ◌==◌, ◌&&◌, Bool, true, false, if◌then◌else◌, nat_lt, IsTrue, IsFalse, ◌⊎◌, Option, Some, None, IsSome, IsNone, IsSomeAnd, List, [], ◌∷◌, length}
 use Rattle.std.specs.declared.cmp.Ordering.{Ordering}
 use Rattle.std.specs.declared.cmp.Ordering.TheVariants.{Less}
 use Rattle.std.specs.Ordering.{nat_cmp, on, then_cmp}
@@ -27,21 +27,9 @@ use Rattle.hv_history.specs.declared.entry.Cause.{Cause}
 use Rattle.hv_history.specs.declared.entry.Cause.TheVariants as cause
 use Rattle.hv_history.specs.Asking.{asked_by}
 pub use Rattle.hv_history.specs.Standing.{is_open, is_started, locks_of_tree, locks_of, is_named}
-use Rattle.hv_history.specs.State.{State, Job, Table, Snapshot, Transaction, Ending, Committed, numbered, meaning, opening_tree, created_shape, given_in, nothing_yet, after}
-
--- ---- a transaction's state
-
--- the transaction of that number is there, and the fact holds of it
-abbrev pub Of : State → ℕ → (Transaction → Type 0) → Type 0
-Of state txn P = IsSomeAnd (numbered state.transactions txn) P
-
-pub record IsRunning (transaction : Transaction) : Type 0 where
-  pub unended : IsTrue (is_open transaction)
-  pub started : IsTrue (is_started transaction)
-
-pub record IsWaiting (transaction : Transaction) : Type 0 where
-  pub unended : IsTrue (is_open transaction)
-  pub unstarted : IsFalse (is_started transaction)
+use Rattle.hv_history.specs.State.{State, Table, Transaction, Ending, Committed, numbered, meaning, opening_tree, created_shape, given_in, nothing_yet, after}
+pub use Rattle.hv_history.specs.Load.{Of, IsRunning, IsWaiting, place_of_snapshot, profile, is_working, one_if, open_one, working_one, load, HasRoom}
+use Rattle.hv_history.specs.JobsFit.{OfJob, AskedFits, PickedFits, PublishedFits, EmptyFits, FailedFits, CleanedFits, ForgotFits}
 
 -- ---- locks
 
@@ -83,42 +71,10 @@ abbrev pub commits_before : ℕ → ℕ → List Touch → Option Ending → Boo
 commits_before place end wrote (Some (Committed at those)) = nat_lt place at && (nat_lt at end && touches_conflict wrote those)
 commits_before place end wrote _ = false
 
--- the place of a transaction's snapshot, or 0
-abbrev pub place_of_snapshot : Option Snapshot → ℕ
-place_of_snapshot None = 0
-place_of_snapshot (Some snapshot) = snapshot.place
-
 -- no commit behind the snapshot conflicts with these touches
 abbrev pub MeetsNoConflict : State → Transaction → List Touch → Type 0
 MeetsNoConflict state transaction wrote =
     IsFalse (list_any (λ (other : Transaction). commits_against (place_of_snapshot transaction.snapshot) wrote other.ending) state.transactions)
-
--- the limits of this project's profile
-abbrev pub profile : Limits
-profile = record { entries = 131072 }
-
--- ---- room: an entry that asks for it fits where the load stays within the limit
-
--- a job that was picked and has not ended
-abbrev pub is_working : Job → Bool
-is_working job = is_some job.watermark && (is_none job.published && (not job.is_empty && is_none job.failure))
-
-abbrev pub one_if : Bool → ℕ
-one_if b = if b then 1 else 0
-
-abbrev pub open_one : Transaction → ℕ
-open_one transaction = one_if (is_open transaction)
-
-abbrev pub working_one : Job → ℕ
-working_one job = one_if (is_working job)
-
--- the entries, and the one that each open transaction and each working job still needs
-abbrev pub load : State → ℕ
-load state = state.entries + sum_by open_one state.transactions + sum_by working_one state.jobs
-
--- an entry of this kind adds so much to the load
-abbrev pub HasRoom : Limits → State → ℕ → Type 0
-HasRoom limits state more = load state + more ≤ limits.entries
 
 -- ---- what fits: this rests on the entries before it alone, and on no meaning
 
@@ -265,8 +221,8 @@ CauseFits limits state txn cause.Memory transaction = IsTrue (is_open transactio
 CauseFits limits state txn cause.Lost transaction = LostFits state transaction
 CauseFits limits state txn cause.Rollback transaction = ⊥
 
--- the entry fits a book that leaves this state; those of compaction, of forgetting, of transactions of several statements and of added
--- columns come later
+-- the entry fits a book that leaves this state; those of compaction and of forgetting by specs/JobsFit, those of transactions of several
+-- statements and of added columns come later
 abbrev pub Fits : Limits → State → Entry → Type 0
 Fits limits state (entry.Boot run) = BootFits limits state run
 Fits limits state (entry.Opened txn session number text) = OpenedFits limits state txn.0 text
@@ -276,6 +232,13 @@ Fits limits state (entry.Commit txn wrote) = Of state txn.0 (CommitFits state wr
 Fits limits state (entry.Abort txn cause) = Of state txn.0 (CauseFits limits state txn.0 cause)
 Fits limits state (entry.Create txn table) = Of state txn.0 (CreateFits state table.0)
 Fits limits state (entry.Drop txn table) = Of state txn.0 (DropFits state table.0)
+Fits limits state (entry.Asked job table partition kind by) = AskedFits limits state job.0 table.0 partition kind by
+Fits limits state (entry.Picked job mark) = OfJob state job.0 (PickedFits limits state job.0 mark.0)
+Fits limits state (entry.Published job low high mark) = OfJob state job.0 (PublishedFits state low.0 high.0 mark.0)
+Fits limits state (entry.Empty job) = OfJob state job.0 (EmptyFits state)
+Fits limits state (entry.Cleaned job) = OfJob state job.0 (CleanedFits limits state)
+Fits limits state (entry.Failed job cause) = OfJob state job.0 (FailedFits state cause)
+Fits limits state (entry.Forgot table write) = IsSomeAnd (numbered state.tables table.0) (ForgotFits limits state write.0)
 Fits limits state _ = ⊥
 
 -- ---- what is true: an entry says of its statement what it came to at its Start

@@ -7,10 +7,11 @@ pub mod Shown
 pub mod State
 pub mod Asking
 pub mod Answers
-pub mod Legal
+pub mod Load
 pub mod Thresholds
 pub mod Jobs
 pub mod JobsFit
+pub mod Legal
 pub mod JobsTrue
 pub mod Book
 pub mod Places

@@ -4,8 +4,6 @@ use Rattle.std.specs.Option.{option_map}
 use Rattle.std.specs.Prelude.{IfErr, slice_index_or, sum_by, is_none, Bool, true, false}
 use Rattle.std.proofs.lemmas.List.Sums.{sum_by-cons}
 use Rattle.hv_history.specs.declared.state.Transaction.{Transaction}
-use Rattle.hv_stands.proofs.Keeping.{sound-all, nothing-sound}
-use Rattle.hv_house.proofs.Openings.{opened-fits}
 use Rattle.std.proofs.lemmas.List.{length-map}
 use Rattle.hv_base.specs.declared.ids.Limits.{Limits}
 use Rattle.hv_base.specs.Told.{Tells, Moves}
@@ -28,10 +26,9 @@ use Rattle.hv_house.specs.declared.boot.Left.{Left}
 use Rattle.hv_house.specs.declared.house.House.{House}
 use Rattle.hv_house.specs.declared.fault.HouseFault.{HouseFault}
 use Rattle.hv_house.specs.declared.fault.HouseFault.TheVariants as house
-use Rattle.hv_house.specs.declared.boot.BootFault.TheVariants as fault
 use Rattle.hv_house.specs.House.{entries_of, IsKept, IsReadyWithin, IsHalted, Leaves}
 use Rattle.hv_house.specs.Steps.{KeepsMarks, IsOpenedOver}
-use Rattle.hv_house.specs.Booting.{number_next, marked_from, open_numbers, lost_entry, opening_entries, opening_of, boot_fault, LeavesFront, IsCutOpening, CutsOpening, LosesSome, NotesWithRoom, IsLearned}
+use Rattle.hv_house.specs.Booting.{number_next, marked_from, open_numbers, lost_entry, boot_fault, LeavesFront, CutsOpening, LosesSome, NotesWithRoom, IsLearned}
 
 -- ---- what is learned of a book
 
@@ -115,28 +112,6 @@ cut-none why (Some s) book opening journal = record {
   more = opening;
   parts = refl;
   leaves = leave-front why (book ++ []) opening s.journal (subst (λ b. IsJournal b s.journal) (sym (append-nil book)) journal);
-}
-
--- where the journal has no room for it
-pub stopped-full : (entries : ℕ) (told : Option Store) (book : List Entry) → Tells told (λ s. IsJournal book s.journal)
-    → Tells told (λ s. IsCutOpening (fault.Full entries) book s.journal)
-stopped-full entries None book journal = tt
-stopped-full entries (Some s) book journal = record {
-  front = [];
-  more = opening_entries (state_of book);
-  parts = refl;
-  leaves = subst (λ b. IsJournal b s.journal) (sym (append-nil book)) journal;
-}
-
--- or before its first entry
-pub stopped-early : (told : Option Store) (book : List Entry) → Tells told (λ s. IsJournal book s.journal)
-    → Tells told (λ s. IsCutOpening fault.NoMemory book s.journal)
-stopped-early None book journal = tt
-stopped-early (Some s) book journal = record {
-  front = [];
-  more = opening_entries (state_of book);
-  parts = refl;
-  leaves = subst (λ b. IsJournal b s.journal) (sym (append-nil book)) journal;
 }
 
 -- ---- something was noted only where there is room for all of it
@@ -243,35 +218,14 @@ counted-from : (s : State) (book : List Entry) → (fold after s book).entries �
 counted-from s [] = omega arith
 counted-from s (e ∷ book) = counted-from (after s e) book ∙ omega arith
 
-pub load-is : (limits : Limits) (book : List Entry) → AllFit limits nothing_yet book → load (state_of book) ≡ length book + length (open_numbers (state_of book))
-load-is limits book fit =
-    let idle : sum_by working_one (state_of book).jobs ≡ 0 = ap (sum_by working_one) (sound-all limits nothing_yet book fit nothing-sound).no_jobs in
-    omega (arith, counted-from nothing_yet book, opens-counted 1 (state_of book).transactions, idle)
-
-pub load-small : (limits : Limits) (book : List Entry) → AllFit limits nothing_yet book → (unended : List ℕ) → unended ≡ open_numbers (state_of book) → length book + length unended + 1 ≤ limits.entries
-    → load (state_of book) + 1 ≤ limits.entries
-load-small limits book fit unended is room = omega (arith, load-is limits book fit, ap length is, room)
-
-pub load-full : (limits : Limits) (book : List Entry) → AllFit limits nothing_yet book → (unended : List ℕ) → unended ≡ open_numbers (state_of book) → limits.entries < length book + length unended + 1
-    → limits.entries < load (state_of book) + 1
-load-full limits book fit unended is full = omega (arith, load-is limits book fit, ap length is, full)
-
--- ---- the opened house
-
-pub raised-ready : {D : Type 0} (limits : Limits) (told : D → Option Store) (book : List Entry) (left : Left) (now : House D) → now.limits ≡ limits → limits.entries ≤ 9999999 → AllFit limits nothing_yet book → IsLearned book left
-    → length book + length left.unended.items + 1 ≤ limits.entries → IsKept told now → entries_of now ≡ book ++ Boot left.runs ∷ map lost_entry left.unended.items
-    → (entries_of now ≡ opening_of book) × IsReadyWithin limits told now
-raised-ready limits told book left now same most fit is room kept entries =
-    let whole : entries_of now ≡ opening_of book =
-    entries ∙ (λ i. book ++ Boot (is.runs i) ∷ map lost_entry (is.open_are i)) in (
-      whole,
-      record {
-        kept = kept;
-        limits_are = same;
-        within = most;
-        fit = subst (AllFit limits nothing_yet) (sym whole) (opened-fits limits book fit (load-small limits book fit left.unended.items is.open_are room));
-      },
-    )
+-- room for the whole opening is room for the Boot and the aborts, and for the ends of jobs behind them
+pub lost-room : (limits : Limits) (book : List Entry) (most : ℕ) → limits.entries ≤ most → HasRoom limits (state_of book) 1
+    → length book + length (open_numbers (state_of book)) + 1 + sum_by working_one (state_of book).jobs ≤ most
+lost-room limits book most high room =
+    let counted = counted-from nothing_yet book in
+    let opened = opens-counted 1 (state_of book).transactions in
+    let small : load (state_of book) + 1 ≤ limits.entries = room in
+    omega (arith, counted, opened, small, high)
 
 -- the items that stand are taken as those of the opening
 pub settled-ready : {D : Type 0} (limits : Limits) (told : D → Option Store) (before now : House D) → now.shelf ≡ before.shelf → now.place ≡ before.place

@@ -2,10 +2,12 @@
 use Rattle.std.proofs.Common.{ℕ, ◌≤◌, List, length, arith}
 use Rattle.std.proofs.lemmas.List.{length-append}
 use Rattle.hv_base.specs.declared.ids.TxnId.{TxnId}
+use Rattle.hv_base.specs.declared.ids.JobId.{JobId}
 use Rattle.hv_base.specs.declared.ids.TableId.{TableId}
 use Rattle.hv_base.specs.declared.ids.WriteId.{WriteId}
 use Rattle.hv_history.specs.declared.entry.Entry.TheVariants as entry
 use Rattle.hv_history.specs.declared.entry.Cause.TheVariants as cause
+use Rattle.hv_history.specs.declared.entry.JobCause.TheVariants as job_cause
 use Rattle.hv_history.specs.Spelling.{entry_spelling}
 use Rattle.hv_bytes.proofs.Lengths.{length-four, length-eight, length-text}
 
@@ -30,3 +32,13 @@ short_lost txn = grind (arith, length-append, length-eight)
 
 pub short_boot : (run : ℕ) → length (entry_spelling (entry.Boot run)) ≤ 65536
 short_boot run = grind (arith, length-append, length-eight)
+
+pub short_published : (job : JobId) (low high : WriteId) (mark : TxnId) → length (entry_spelling (entry.Published job low high mark)) ≤ 65536
+short_published job low high mark = grind (arith, length-append, length-eight)
+
+pub short_gone : (job : JobId) → length (entry_spelling (entry.Failed job job_cause.Gone)) ≤ 65536
+short_gone job = grind (arith, length-append, length-eight)
+
+-- one that an earlier run left at work
+pub short_left : (job : JobId) → length (entry_spelling (entry.Failed job job_cause.Lost)) ≤ 65536
+short_left job = grind (arith, length-append, length-eight)

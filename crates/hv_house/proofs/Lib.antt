@@ -2,9 +2,15 @@ pub mod Hards
 pub mod Lengths
 pub mod Journals
 pub mod Stays
+pub mod Faithful
+pub mod JobEnds
 pub mod Openings
 pub mod Boots
-pub mod Faithful
+pub mod EndSteps
+pub mod EndLoops
+pub mod Raising
+pub mod Booted
+pub mod BootClauses
 pub mod Steps
 pub mod Reading
 pub mod Ready

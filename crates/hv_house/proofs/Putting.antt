@@ -24,7 +24,7 @@ use Rattle.hv_house.specs.declared.fault.HouseFault.TheVariants as fault
 use Rattle.hv_house.specs.declared.house.House.{House}
 use Rattle.hv_house.specs.Faults.{put_result, HasRisen}
 use Rattle.hv_house.specs.House.{entries_of, IsReadyWithin, KeepsJournal}
-use Rattle.hv_house.specs.Steps.{seen_of, fault_outcome, outcome_of, GainsBy, IsPutMarkedFor, PutStepWithin}
+use Rattle.hv_house.specs.Steps.{seen_of, fault_outcome, outcome_of, GainsBy, IsPutMarkedFor, PutStepWithin, put_of}
 use Rattle.hv_house.proofs.Reading.{contains-last, gains-nothing}
 use Rattle.hv_house.proofs.Ready.{put-ready, put-stays}
 
@@ -64,7 +64,7 @@ module _ {D : Type 0} (limits : Limits) (told : D → Option Store) (faults : D 
   }
 
   done-ends : (x : Unit {0}) → Moves (HasFile place bytes) (told before.shelf) (told now.shelf) → faults before.shelf ≤ faults now.shelf → GainsBy call Done before now
-      → PutStepWithin limits told faults by place bytes before now (Ok x)
+      → PutStepWithin limits told faults (put_of by place bytes) before now (Ok x)
   done-ends x moves later gained = record {
     book = gained.entries;
     ready = put-ready limits told before now call gained (Moves-weaken (HasFile place bytes) KeepsJournal (put-journal place bytes) (told before.shelf) (told now.shelf) moves) ready;
@@ -83,7 +83,7 @@ module _ {D : Type 0} (limits : Limits) (told : D → Option Store) (faults : D 
 
   err-ends : (why : HouseFault) → Moves KeepsJournal (told before.shelf) (told now.shelf) → faults before.shelf ≤ faults now.shelf
       → HasRisen (faults before.shelf) (faults now.shelf) why → GainsBy call (fault_outcome why) before now
-      → Step told faults call (fault_outcome why) (seen_of before) (seen_of now) → PutStepWithin limits told faults by place bytes before now (Err why)
+      → Step told faults call (fault_outcome why) (seen_of before) (seen_of now) → PutStepWithin limits told faults (put_of by place bytes) before now (Err why)
   err-ends why keeps later risen gained step = record {
     book = gained.entries;
     ready = tt;
@@ -98,7 +98,7 @@ module _ {D : Type 0} (limits : Limits) (told : D → Option Store) (faults : D 
 
   torn-ends : (below : Bool) → nat_lt (faults now.shelf) (2 ^ 64 - 1) ≡ below → Moves (TornFile place) (told before.shelf) (told now.shelf)
       → faults before.shelf ≤ faults now.shelf → Rose (faults before.shelf) (faults now.shelf)
-      → GainsBy call (fault_outcome (counted below)) before now → PutStepWithin limits told faults by place bytes before now (Err (counted below))
+      → GainsBy call (fault_outcome (counted below)) before now → PutStepWithin limits told faults (put_of by place bytes) before now (Err (counted below))
   torn-ends true is moves later rose gained =
       let keeps = Moves-weaken (TornFile place) KeepsJournal (torn-journal place) (told before.shelf) (told now.shelf) moves in
       let few : faults now.shelf < 2 ^ 64 - 1 = ltb-true (faults now.shelf) (2 ^ 64 - 1) is in
@@ -109,7 +109,7 @@ module _ {D : Type 0} (limits : Limits) (told : D → Option Store) (faults : D 
       err-ends fault.Store keeps later rose gained (step-by Closed tt moves later gained)
 
   same-ends : told now.shelf ≡ told before.shelf → faults before.shelf ≤ faults now.shelf → GainsBy call Refused before now
-      → PutStepWithin limits told faults by place bytes before now (Err fault.NoMemory)
+      → PutStepWithin limits told faults (put_of by place bytes) before now (Err fault.NoMemory)
   same-ends same later gained =
       err-ends fault.NoMemory (moves-equal KeepsJournal (λ s t e. ap (λ (x : Store). x.journal) e) (told before.shelf) (told now.shelf) same) later tt gained
       (step-by Refused tt (moves-equal (λ s t. t ≡ s) (λ s t e. e) (told before.shelf) (told now.shelf) same) later gained)
@@ -118,7 +118,7 @@ module _ {D : Type 0} (limits : Limits) (told : D → Option Store) (faults : D 
       → (IsErrOf done shelf.Failed → Moves (TornFile place) (told before.shelf) (told now.shelf)) → (IsErrOf done shelf.NoMemory → told now.shelf ≡ told before.shelf)
       → StoreCause (faults before.shelf) (faults now.shelf) (IsErrOf done shelf.Failed)
       → GainsBy call (outcome_of (put_result (faults now.shelf) done)) before now
-      → PutStepWithin limits told faults by place bytes before now (put_result (faults now.shelf) done)
+      → PutStepWithin limits told faults (put_of by place bytes) before now (put_result (faults now.shelf) done)
   ends-of (Ok x) put torn same cause gained = done-ends x put cause.later gained
   ends-of (Err shelf.Failed) put torn same cause gained = torn-ends (nat_lt (faults now.shelf) (2 ^ 64 - 1)) refl (torn refl) cause.later (cause.failed refl) gained
   ends-of (Err shelf.NoMemory) put torn same cause gained = same-ends (same refl) cause.later gained
@@ -126,10 +126,10 @@ module _ {D : Type 0} (limits : Limits) (told : D → Option Store) (faults : D 
   pub put-ends : (s : D) (done : Result (Unit {0}) ShelfFault) (result : Result (Unit {0}) HouseFault) → now.shelf ≡ s → result ≡ put_result (faults s) done
       → OnOk done (Moves (HasFile place bytes) (told before.shelf) (told s)) → (IsErrOf done shelf.Failed → Moves (TornFile place) (told before.shelf) (told s))
       → (IsErrOf done shelf.NoMemory → told s ≡ told before.shelf) → StoreCause (faults before.shelf) (faults s) (IsErrOf done shelf.Failed)
-      → GainsBy call (outcome_of result) before now → PutStepWithin limits told faults by place bytes before now result
+      → GainsBy call (outcome_of result) before now → PutStepWithin limits told faults (put_of by place bytes) before now result
   put-ends s done result at is put torn none cause gained =
       let here : result ≡ put_result (faults now.shelf) done = is ∙ ap (λ (x : D). put_result (faults x) done) (sym at) in
-      subst (PutStepWithin limits told faults by place bytes before now) (sym here)
+      subst (PutStepWithin limits told faults (put_of by place bytes) before now) (sym here)
       (ends-of done (subst (λ (x : D). OnOk done (Moves (HasFile place bytes) (told before.shelf) (told x))) (sym at) put)
       (subst (λ (x : D). IsErrOf done shelf.Failed → Moves (TornFile place) (told before.shelf) (told x)) (sym at) torn)
       (subst (λ (x : D). IsErrOf done shelf.NoMemory → told x ≡ told before.shelf) (sym at) none)
@@ -139,7 +139,8 @@ module _ {D : Type 0} (limits : Limits) (told : D → Option Store) (faults : D 
 -- nothing was put, for want of memory
 pub idle-ends : {D : Type 0} (limits : Limits) (told : D → Option Store) (faults : D → ℕ) (by : TxnId) (place : Place) (bytes : List ℕ) (before now : House D) → IsReadyWithin limits told before
     → now.shelf ≡ before.shelf → now.place ≡ before.place → now.start ≡ before.start → entries_of now ≡ entries_of before → now.trail.marks ≡ before.trail.marks
-    → now.trail.opened ≡ before.trail.opened → now.limits ≡ before.limits → now.trail.closed ≡ before.trail.closed → PutStepWithin limits told faults by place bytes before now (Err fault.NoMemory)
+    → now.trail.opened ≡ before.trail.opened → now.limits ≡ before.limits → now.trail.closed ≡ before.trail.closed
+    → PutStepWithin limits told faults (put_of by place bytes) before now (Err fault.NoMemory)
 idle-ends limits told faults by place bytes before now ready same at start entries marks left keeps closed =
     same-ends limits told faults by place bytes before now ready (ap told same) (omega (arith, ap faults same))
     (gains-nothing (Put (Txn by) place bytes) Refused before now refl refl ready.kept.running at start entries marks left keeps closed)

@@ -81,6 +81,13 @@ module _ {D : Type 0} (told : D → Option Store) (faults : D → ℕ) (by : Opt
   step-unread fault.NoMemory rose gained = step-by Refused tt (λ book s t e. e) later gained
   step-unread (fault.Failed count) rose gained = step-by (Failed count) tt (λ book s t e. e) (rose.0, omega (arith, rose.1)) gained
 
+-- the house refused it by itself, and the store wasn't asked
+pub step-unasked : {D : Type 0} (told : D → Option Store) (faults : D → ℕ) (by : Option Reader) (house : House D) → house.trail.closed ≡ false
+    → Step told faults (Read by) Refused (seen_of house) (seen_of house)
+step-unasked told faults by house running =
+    step-unread told faults by house house running refl (omega arith) fault.NoMemory tt
+    (gains-nothing (Read by) Refused house house refl refl running refl refl refl refl refl refl refl)
+
 -- ---- the mark of a fault stands
 
 pub contains-last : (items : List TrailItem) (item : TrailItem) → Contains (items ++ item ∷ []) item

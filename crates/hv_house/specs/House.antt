@@ -9,7 +9,7 @@ use Rattle.hv_history.specs.Spelling.{entry_spelling}
 use Rattle.hv_history.specs.Journal.{place_of}
 use Rattle.hv_history.specs.Legal.{IsLegal, Fits, AllFit, profile}
 use Rattle.hv_journal.specs.Appending.{Holds, HoldsMore, KeepsTree}
-use Rattle.hv_stands.specs.Files.{Stands}
+use Rattle.hv_law_made.specs.Standing.{Standing}
 use Rattle.hv_stands.specs.Running.{Asking, opening, starting, next_number}
 use Rattle.hv_house.specs.declared.fault.HouseFault.{HouseFault}
 use Rattle.hv_house.specs.declared.fault.HouseFault.TheVariants as fault
@@ -52,7 +52,7 @@ IsReady told house = IsReadyWithin profile told house
 
 -- a legal book whose files stand in the store
 pub record IsFaithful (book : List Entry) (store : Store) : Type 0 where
-  pub stands : Stands (state_of book) store.tree
+  pub stands : Standing (state_of book) store.tree
   pub legal : IsLegal profile book
 
 -- the store, where it tells, has the files of this book

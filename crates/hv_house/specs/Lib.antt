@@ -1,7 +1,9 @@
+pub use Rattle.hv_law_read as hv_law_read
 pub use Rattle.hv_table_rows as hv_table_rows
 pub use Rattle.hv_recovery as hv_recovery
 pub mod Asking
 pub mod Booting
+pub mod Ending
 pub mod Calls
 pub mod Faults
 pub mod House

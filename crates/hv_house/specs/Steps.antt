@@ -111,17 +111,28 @@ IsPutMarkedFor house by (fault.Failed count) = HasBrokenPut house by count
 IsPutMarkedFor house by fault.Store = Unit {0}
 IsPutMarkedFor house by fault.NoMemory = Unit {0}
 
+-- a put that is asked for: whose it is, the file's place, and its bytes
+pub record PutDue : Type 0 where
+  pub by : TxnId
+  pub place : Place
+  pub bytes : List ℕ
+
+abbrev pub put_of : TxnId → Place → List ℕ → PutDue
+put_of by place bytes = record { by = by; place = place; bytes = bytes }
+
 -- all that is promised of a put of this file by this transaction
-pub record PutStepWithin {D : Type 0} (limits : Limits) (told : D → Option Store) (faults : D → ℕ) (by : TxnId) (place : Place) (bytes : List ℕ) (before now : House D) (result : Result (Unit {0}) HouseFault) : Type 0 where
+pub record PutStepWithin {D : Type 0} (limits : Limits) (told : D → Option Store) (faults : D → ℕ) (due : PutDue)
+    (before now : House D) (result : Result (Unit {0}) HouseFault) : Type 0 where
   pub book : entries_of now ≡ entries_of before
   pub ready : IfOk result (λ _. IsReadyWithin limits told now)
   pub stays : IfErr result (λ why. StaysPutWithin limits told why now)
-  pub marked : IfErr result (IsPutMarkedFor now by)
-  pub step : Step told faults (Put (Txn by) place bytes) (outcome_of result) (seen_of before) (seen_of now)
+  pub marked : IfErr result (IsPutMarkedFor now due.by)
+  pub step : Step told faults (Put (Txn due.by) due.place due.bytes) (outcome_of result) (seen_of before) (seen_of now)
   pub cause : FileCause (faults before.shelf) (faults now.shelf) result
 
-abbrev pub PutStep : {D : Type 0} → (D → Option Store) → (D → ℕ) → TxnId → Place → List ℕ → House D → House D → Result (Unit {0}) HouseFault → Type 0
-PutStep told faults by place bytes before now result = PutStepWithin profile told faults by place bytes before now result
+abbrev pub PutStep : {D : Type 0} → (D → Option Store) → (D → ℕ) → PutDue → House D → House D
+    → Result (Unit {0}) HouseFault → Type 0
+PutStep told faults due before now result = PutStepWithin profile told faults due before now result
 
 -- ---- what is put, and what a commit rests on
 

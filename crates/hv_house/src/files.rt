@@ -9,7 +9,7 @@ ghost use Rattle.hv_shelf.specs.declared.fault.ShelfFault.TheVariants as shelf_f
 ghost use Rattle.hv_shelf.specs.declared.place.Place.{Place};
 ghost use Rattle.hv_house.specs.Faults.{house_fault, put_result, HardStep, ShutsAtLast};
 ghost use Rattle.hv_house.specs.House.{entries_of, IsReadyWithin};
-ghost use Rattle.hv_house.specs.Steps.{outcome_of, fault_outcome, GainsBy, IsOwnFile, PutStepWithin};
+ghost use Rattle.hv_house.specs.Steps.{outcome_of, fault_outcome, GainsBy, IsOwnFile, PutStepWithin, put_of};
 
 use crate::fault::HouseFault;
 use crate::house::House;
@@ -81,7 +81,8 @@ impl<D: Shelf> House<D> {
         requires ready { IsReadyWithin limits D.told self.old }
         requires can { CanPut file.now }
         requires own { IsOwnFile (entries_of self.old) by place file.now }
-        ensures put { PutStepWithin limits D.told D.faults by place (bytes_of file.now) self.old self.new result }
+        ensures put { PutStepWithin limits D.told D.faults (put_of by place (bytes_of file.now)) self.old self.new
+            result }
         ensures hard { HardStep (D.hard self.old.shelf) (D.hard self.new.shelf)
             self.old.trail.closed self.new.trail.closed }
         ensures encoded { OnOk result (IsEncoded file.now) }

@@ -1,6 +1,7 @@
 //! The warehouse over one store: its journal, its book, and its files, whatever transactions are open.
 #![tactic(auto)]
 
+pub use hv_law_read;
 pub use hv_recovery;
 pub use hv_table_rows;
 
@@ -8,6 +9,7 @@ mod asking;
 mod boot;
 mod buffer;
 mod calls;
+mod ending;
 mod failing;
 mod fault;
 mod files;
@@ -23,4 +25,4 @@ pub use calls::EntryFault;
 pub use fault::HouseFault;
 pub use house::House;
 pub use laws::who_waits_can_start;
-pub use listing::{GetFault, Listing};
+pub use listing::{GetFault, ListFault, Listing};

@@ -9,7 +9,7 @@ use Rattle.std.proofs.lemmas.List.Folds.{list_any-append, position_or_len_push}
 use Rattle.hv_typing.specs.Grouped.{keep_new, distinct, members, keys_in}
 use Rattle.hv_keyed.specs.Folds.{with_new, folded, folds}
 
-or_false : (a : Bool) → (a || false) ≡ a
+pub or_false : (a : Bool) → (a || false) ≡ a
 or_false true = refl
 or_false false = refl
 
@@ -17,17 +17,17 @@ or_assoc : (a b c : Bool) → ((a || b) || c) ≡ (a || (b || c))
 or_assoc true b c = refl
 or_assoc false b c = refl
 
-neither_left : (a b : Bool) → (a || b) ≡ false → a ≡ false
+pub neither_left : (a b : Bool) → (a || b) ≡ false → a ≡ false
 neither_left true b h = absurd (true≢false h)
 neither_left false b h = refl
 
-neither_right : (a b : Bool) → (a || b) ≡ false → b ≡ false
+pub neither_right : (a b : Bool) → (a || b) ≡ false → b ≡ false
 neither_right true b h = absurd (true≢false h)
 neither_right false b h = h
 
 module _ {K : Type 0} {same : K → K → Bool} (laws : IsEquivalence same) where
   -- a key is found where one that is the same is
-  found_alike : (k x : K) (ks : List K) → same k x ≡ true → list_any (same k) ks ≡ list_any (same x) ks
+  pub found_alike : (k x : K) (ks : List K) → same k x ≡ true → list_any (same k) ks ≡ list_any (same x) ks
   found_alike k x [] e = refl
   found_alike k x (j ∷ ks) e = λ i. laws.congr k x j e i || found_alike k x ks e i
 
@@ -69,7 +69,7 @@ module _ {K : Type 0} {same : K → K → Bool} (laws : IsEquivalence same) wher
       by true h = apart
       by false h = apart_push ks x h apart
 
-  apart_kept : (ks xs : List K) → Apart ks → Apart (fold (keep_new same) ks xs)
+  pub apart_kept : (ks xs : List K) → Apart ks → Apart (fold (keep_new same) ks xs)
   apart_kept ks [] apart = apart
   apart_kept ks (x ∷ xs) apart = apart_kept (keep_new same ks x) xs (apart_keep ks x apart)
 
@@ -77,10 +77,21 @@ module _ {K : Type 0} {same : K → K → Bool} (laws : IsEquivalence same) wher
   unfolding Apart
   apart_distinct xs = apart_kept [] xs tt
 
+  -- a key isn't among those in front of it
+  pub apart_front : (front : List K) (k : K) (rest : List K) → Apart (front ++ k ∷ rest) → list_any (same k) front ≡ false
+  unfolding Apart
+  apart_front [] k rest apart = refl
+  apart_front (j ∷ front) k rest apart =
+      let later : list_any (same j) (k ∷ rest) ≡ false =
+      neither_right (list_any (same j) front) (list_any (same j) (k ∷ rest)) (sym (list_any-append (same j) front (k ∷ rest)) ∙ apart.0) in
+      let here : same k j ≡ false = laws.symm k j ∙ neither_left (same j k) (list_any (same j) rest) later in
+      let others : list_any (same k) front ≡ false = apart_front front k rest apart.1 in
+      λ i. here i || others i
+
   -- a change at the place of one key
   module _ {A : Type 0} (f g : K → A) (change : A → A) (q : K)
       (others : (k : K) → same q k ≡ false → f k ≡ g k) (own : (k : K) → same q k ≡ true → change (f k) ≡ g k) where
-    others_all : (ks : List K) → list_any (same q) ks ≡ false → map f ks ≡ map g ks
+    pub others_all : (ks : List K) → list_any (same q) ks ≡ false → map f ks ≡ map g ks
     others_all [] h = refl
     others_all (k ∷ ks) h = λ i. others k (neither_left (same q k) (list_any (same q) ks) h) i ∷ others_all ks (neither_right (same q k) (list_any (same q) ks) h) i
 

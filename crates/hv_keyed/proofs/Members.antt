@@ -3,6 +3,7 @@ use Rattle.std.proofs.Common.{◌≡◌, Bool, true, false, List, [], ◌∷◌,
 use Rattle.std.specs.List.{fold}
 use Rattle.hv_typing.specs.Grouped.{distinct, members, keys_in, groups}
 use Rattle.hv_keyed.specs.Folds.{folded, folds, added}
+use Rattle.hv_keyed.specs.Parts.{group_at, groups_in}
 use Rattle.hv_keyed.proofs.JoinLaws.{append_nil}
 
 added_all : {R : Type 0} (kept rows : List R) → fold added kept rows ≡ kept ++ rows
@@ -40,3 +41,22 @@ module _ {K R S : Type 0} (same : K → K → Bool) (key : S → K) (shows : R �
   pub groups_shown : (rows : List R) → map (map shows) (groups same (λ r. key (shows r)) rows) ≡ groups same key (map shows rows)
   groups_shown rows =
       shown_all rows (keys_in same (λ r. key (shows r)) rows) ∙ ap (λ ks. map (members same key (map shows rows)) (distinct same ks)) (keys_shown rows)
+
+  module _ {A : Type 0} (start : A) (step : A → S → A) where
+    abbrev step_shown : A → R → A
+    step_shown kept row = step kept (shows row)
+
+    fold_shown : (kept : A) (rows : List R) → fold step_shown kept rows ≡ fold step kept (map shows rows)
+    fold_shown kept [] = refl
+    fold_shown kept (row ∷ rows) = fold_shown (step kept (shows row)) rows
+
+    entries_at : (rows : List R) (ks : List K)
+        → map (group_at same (λ r. key (shows r)) start step_shown rows) ks ≡ map (group_at same key start step (map shows rows)) ks
+    entries_at rows [] = refl
+    entries_at rows (k ∷ ks) =
+        λ i. (k, (fold_shown start (members same (λ r. key (shows r)) rows k) ∙ ap (fold step start) (members_shown rows k)) i) ∷ entries_at rows ks i
+
+    -- keys of rows, each with what is kept, are those of what stands for the rows
+    pub entries_shown : (rows : List R) → groups_in same (λ r. key (shows r)) start step_shown rows ≡ groups_in same key start step (map shows rows)
+    entries_shown rows =
+        entries_at rows (keys_in same (λ r. key (shows r)) rows) ∙ ap (λ ks. map (group_at same key start step (map shows rows)) (distinct same ks)) (keys_shown rows)

@@ -1,8 +1,7 @@
-ghost use Rattle.std.specs.Prelude.{◌≡◌, ◌<◌, not, length, IfOk, OnOk, List, ◌++◌};
-ghost use Rattle.std.specs.List.{list_any, fold, position_or_len};
+ghost use Rattle.std.specs.Prelude.{◌≡◌, ◌<◌, not, length, IfOk, OnOk};
+ghost use Rattle.std.specs.List.{list_any, position_or_len};
 ghost use Rattle.hv_typing.specs.Grouped.{keep_new, keys_in};
 ghost use Rattle.hv_keyed.specs.Folds.{with_new, folds};
-ghost use Rattle.hv_keyed.specs.Parts.{GroupsOfParts};
 
 use hv_base::NoMemory;
 use indexmap::IndexSet;
@@ -90,18 +89,3 @@ pub fn fold_groups<R, K: Eq + Hash + Drop, A: Drop, G: GroupFold<R, K, A>>(
     }
     Ok(Groups { keys, kept })
 }
-
-/// A fold that can be taken part by part.
-pub trait Parts<R, K, A>: GroupFold<R, K, A> {
-    ghost merge: { A → A → A };
-
-    fn merge(&self, alloc: Global, kept: &mut A, other: A) -> Result<(), NoMemory>
-        ensures { OnOk result (kept.new ≡ merge kept.old other) };
-
-    ghost splits: { (by : Self) (xs ys : List R) → merge (fold (Self.step by) (Self.start by) xs) (fold (Self.step by) (Self.start by) ys) ≡ fold (Self.step by) (Self.start by) (xs ++ ys) };
-}
-
-/// The groups of a whole are those of its parts, put together.
-pub fn parts_are_the_whole<R, K: Eq + Hash, A, G: Parts<R, K, A>>(grouping: &G)
-    ensures { GroupsOfParts K.eq (G.key_of grouping.now) (G.start grouping.now) (G.step grouping.now) G.merge }
-{}

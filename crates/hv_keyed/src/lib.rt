@@ -5,7 +5,12 @@
 mod chain;
 mod grouping;
 mod joins;
+mod merging;
 
 pub use chain::{Chain, Chains, build};
-pub use grouping::{GroupFold, Groups, Parts, enter_with, fold_groups, parts_are_the_whole};
-pub use joins::{Joining, alone, first_matches, inner, left_outer, semi};
+pub use grouping::{GroupFold, Groups, enter_with, fold_groups};
+pub use joins::{
+    Joining, alone, alone_on, first_matches, first_matches_on, inner, inner_on, left_outer,
+    left_outer_on, semi, semi_on,
+};
+pub use merging::{Merging, fold_entries, merged_groups};

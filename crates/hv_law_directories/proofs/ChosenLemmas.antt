@@ -82,7 +82,7 @@ module _ (info : TableInfo) (list : WriteIds) (partition : List ℕ) (files : di
   delta-in-text kind text h =
       let at = from-map (delta_text kind) text (chosen kind) h in (delta_name kind at.0, inr (at.0, at.1, refl), at.2)
 
-  text-in : (kind : Bool) (text : List ℕ) → IsIn text (chosen_texts kind (sight_of list) (names_in partition named)) → IsTextOf kind text
+  pub text-in : (kind : Bool) (text : List ℕ) → IsIn text (chosen_texts kind (sight_of list) (names_in partition named)) → IsTextOf kind text
   text-in true text h = delta-in-text true text h
   text-in false text h = elim (in-either text (base_text top) (map (delta_text false) (chosen false)) h) [
     | inl base ↦ base-in-text top refl text base
@@ -145,7 +145,7 @@ module _ (info : TableInfo) (list : WriteIds) (partition : List ℕ) (files : di
   abbrev IsTaken : Bool → DirFile → Type 0
   IsTaken kind file = is_in_one (chosen_texts kind (sight_of list) (names_in partition named)) file ≡ true
 
-  taken-here : (kind : Bool) (file : DirFile) → IsIn file (files_taken kind list named) → file.place.partition ≡ partition → IsIn file run × IsTaken kind file
+  pub taken-here : (kind : Bool) (file : DirFile) → IsIn file (files_taken kind list named) → file.place.partition ≡ partition → IsIn file run × IsTaken kind file
   unfolding files_taken run_taken
   taken-here kind file h here =
       let at = from-flat (run_taken kind (sight_of list)) file (runs (length named) named) h in
@@ -167,6 +167,26 @@ module _ (info : TableInfo) (list : WriteIds) (partition : List ℕ) (files : di
       in-flat (run_taken kind (sight_of list)) at.0 file (runs (length named) named) at.1
       (in-filter (is_in_one (chosen_texts kind (sight_of list) (names_of at.0))) file at.0 at.2
       (ap (λ r. is_in_one (chosen_texts kind (sight_of list) (names_of r)) file) is ∙ taken))
+
+  -- a file of a directory that is chosen is taken, under that directory's name
+  pub record IsTakenThere (kind : Bool) (n : DirName) (place : Place) : Type 0 where
+    pub dir : Dir
+    pub name_is : name_of dir ≡ n
+    pub taken : IsIn (record { place = place; dir = dir }) (files_taken kind list named)
+
+  pub there-taken : (kind : Bool) (n : DirName) → IsChosenName kind n → (place : Place) (bytes : List ℕ) → place.table.0 ≡ info.table.0
+      → place.partition ≡ partition → place.dir ≡ text_of n → finmap.get files place ≡ Some bytes → IsTakenThere kind n place
+  there-taken kind n is place bytes table_is partition_is dir_is stands_there =
+      let standing = stands kind n is in
+      let named_at : IsAt place.dir standing.dir =
+      (subst IsName (sym standing.name_is) standing.there.0, ap text_of standing.name_is ∙ sym dir_is) in
+      let file : DirFile = record { place = place; dir = standing.dir } in
+      let among_named = place-listed (places_of info.table files) named listed place standing.dir
+      (place-there info.table files place bytes table_is stands_there) named_at in
+      let among_run = in-filter (is_of partition) file named among_named (text-same place.partition partition partition_is) in
+      let taken = any-in (λ text. is_eq (slice_cmp nat_cmp text place.dir)) (text_of n) (chosen_texts kind (sight_of list) (names_in partition named))
+      (in-text kind n is) (text-tied (text_of n) place.dir (sym dir_is)) in
+      record { dir = standing.dir; name_is = standing.name_is; taken = here-taken kind file among_run taken }
 
   -- ---- and their records
 
@@ -207,16 +227,9 @@ module _ (info : TableInfo) (list : WriteIds) (partition : List ℕ) (files : di
     pub rec-sheet : (n : DirName) → IsChosenName kind n → (r : Rec) → IsIn r (recs_in read kind files (dir_of info partition n)) → IsSheetRec r
     rec-sheet n is r h =
         let at = from-recs read kind files (dir_of info partition n) r h in
-        let standing = stands kind n is in
-        let named_at : IsAt at.place.dir standing.dir =
-        (subst IsName (sym standing.name_is) standing.there.0, ap text_of standing.name_is ∙ sym at.within.dir_is) in
-        let file : DirFile = record { place = at.place; dir = standing.dir } in
-        let among_named = place-listed (places_of info.table files) named listed at.place standing.dir
-        (place-there info.table files at.place at.bytes at.within.table_is at.is) named_at in
-        let among_run = in-filter (is_of partition) file named among_named (text-same at.place.partition partition at.within.partition_is) in
-        let taken = any-in (λ text. is_eq (slice_cmp nat_cmp text at.place.dir)) (text_of n) (chosen_texts kind (sight_of list) (names_in partition named))
-        (in-text kind n is) (text-tied (text_of n) at.place.dir (sym at.within.dir_is)) in
-        let sheet = from-map sheet_file file sheets (subst (IsIn file) (sym are) (here-taken kind file among_run taken)) in
+        let there = there-taken kind n is at.place at.bytes at.within.table_is at.within.partition_is at.within.dir_is at.is in
+        let file : DirFile = record { place = at.place; dir = there.dir } in
+        let sheet = from-map sheet_file file sheets (subst (IsIn file) (sym are) there.taken) in
         let held = all-in (IsSheet kind files) sheets sheet.0 each sheet.1 in
         let place_is : sheet.0.file.place ≡ at.place = ap (λ (f : DirFile). f.place) sheet.2 in
         let recs_are : read kind at.place.bucket at.bytes ≡ sheet.0.recs =

@@ -1,16 +1,9 @@
 pub mod ReadingLemmas
-pub mod RoomLemmas
-pub mod FirstLemmas
-pub mod FateLemmas
 pub mod DirLemmas
 pub mod RecordLemmas
-pub mod StandLemmas
-pub mod OwnerLemmas
 pub mod ListedLemmas
 pub mod ThereLemmas
 pub mod GroupLemmas
 pub mod ChosenLemmas
-pub mod ShownLemmas
-pub mod StoodLemmas
 pub mod VisibleLemmas
 pub mod WorkedLemmas

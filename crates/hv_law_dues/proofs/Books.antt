@@ -24,7 +24,7 @@ use Rattle.hv_history.specs.declared.state.Statement.{Statement}
 use Rattle.hv_history.specs.declared.state.Table.{Table}
 use Rattle.hv_history.specs.declared.state.Transaction.{Transaction}
 use Rattle.hv_history.specs.declared.state.Written.{Written}
-use Rattle.hv_history.specs.State.{State, nothing_yet, numbered, changed, changed_at, unless_ended, while_open, opened, started, given_id, given_in, owned, dropped, written_to, committed, ended, wrote_as, writes_of, written_by, commits, statement_meaning, meaning, tables_behind, made_by, acted, after}
+use Rattle.hv_history.specs.State.{State, nothing_yet, numbered, changed, changed_at, unless_ended, while_open, opened, started, given_id, given_in, owned, dropped, written_to, committed, ended, wrote_as, writes_of, written_by, commits, statement_meaning, meaning, tables_behind, made_by, acted, after, forgot}
 use Rattle.hv_history.specs.Legal.{Fits, CommitFits, GivenFits, TouchesAreMeant, CommitIsTrue, IsTruthful, AllFit, AllTruthful}
 use Rattle.hv_book.specs.Commits.{wrote_by, wrote_in}
 use Rattle.hv_book.specs.Past.{total, only_if, owners_in}
@@ -241,24 +241,25 @@ module _ (deletes : Bool) (partition : List ℕ) where
           (ap (λ o. numbered (owners_in o) w) (sym is) ∙ owner, ap writes_in is)
 
   -- a table that is dropped keeps its ids and its writes
-  gone : (tables : List Table) (table k w txn : ℕ) → numbered (owners_in (numbered (changed dropped tables table) k)) w ≡ Some txn
-      → (numbered (owners_in (numbered tables k)) w ≡ Some txn) × (writes_in (numbered (changed dropped tables table) k) ≡ writes_in (numbered tables k))
-  gone tables table k w txn owner = by (either (k == table))
+  kept : (f : Table → Table) → ((t : Table) → (f t).owners ≡ t.owners) → ((t : Table) → (f t).writes ≡ t.writes) → (tables : List Table) (table k w txn : ℕ)
+      → numbered (owners_in (numbered (changed f tables table) k)) w ≡ Some txn
+      → (numbered (owners_in (numbered tables k)) w ≡ Some txn) × (writes_in (numbered (changed f tables table) k) ≡ writes_in (numbered tables k))
+  kept f owners writes tables table k w txn owner = by (either (k == table))
     where
-      at : (o : Option Table) → numbered (owners_in (option_map dropped o)) w ≡ Some txn
-          → (numbered (owners_in o) w ≡ Some txn) × (writes_in (option_map dropped o) ≡ writes_in o)
+      at : (o : Option Table) → numbered (owners_in (option_map f o)) w ≡ Some txn
+          → (numbered (owners_in o) w ≡ Some txn) × (writes_in (option_map f o) ≡ writes_in o)
       at None is = (is, refl)
-      at (Some there) is = (is, refl)
+      at (Some there) is = (ap (λ ids. numbered ids w) (sym (owners there)) ∙ is, writes there)
 
       by : ((k == table) ≡ true) ⊎ ((k == table) ≡ false)
-          → (numbered (owners_in (numbered tables k)) w ≡ Some txn) × (writes_in (numbered (changed dropped tables table) k) ≡ writes_in (numbered tables k))
+          → (numbered (owners_in (numbered tables k)) w ≡ Some txn) × (writes_in (numbered (changed f tables table) k) ≡ writes_in (numbered tables k))
       by (inl e) =
-          let is : numbered (changed dropped tables table) k ≡ option_map dropped (numbered tables k) =
-          subst (λ m. numbered (changed dropped tables m) k ≡ option_map dropped (numbered tables k)) (eqb-true k table e) (numbered-at dropped tables k) in
+          let is : numbered (changed f tables table) k ≡ option_map f (numbered tables k) =
+          subst (λ m. numbered (changed f tables m) k ≡ option_map f (numbered tables k)) (eqb-true k table e) (numbered-at f tables k) in
           let both = at (numbered tables k) (ap (λ o. numbered (owners_in o) w) (sym is) ∙ owner) in
           (both.0, ap writes_in is ∙ both.1)
       by (inr e) =
-          let is = numbered-other dropped tables table k e in
+          let is = numbered-other f tables table k e in
           (ap (λ o. numbered (owners_in o) w) (sym is) ∙ owner, ap writes_in is)
 
   -- a table more, which nobody has an id of
@@ -541,7 +542,31 @@ module _ (deletes : Bool) (partition : List ℕ) where
       quiet s (after s (entry.Drop txn table)) (sound-after limits s (entry.Drop txn table) fits sound)
       (wrote-same (ended (Dropped s.entries table.0)) (λ t e. refl) s.transactions txn.0)
       (λ k w other wrote owner has.
-      let both = gone s.tables table.0 k w other owner in
+      let both = kept dropped (λ t. refl) (λ t. refl) s.tables table.0 k w other owner in
+      record { owner = both.0; writes = both.1 })
+      said
+  step limits s (entry.Asked job table part kind by_) fits is sound said =
+      quiet s (after s (entry.Asked job table part kind by_)) (sound-after limits s (entry.Asked job table part kind by_) fits sound)
+      (λ txn. refl) (still s (after s (entry.Asked job table part kind by_)) refl) said
+  step limits s (entry.Picked job mark) fits is sound said =
+      quiet s (after s (entry.Picked job mark)) (sound-after limits s (entry.Picked job mark) fits sound)
+      (λ txn. refl) (still s (after s (entry.Picked job mark)) refl) said
+  step limits s (entry.Published job low high mark) fits is sound said =
+      quiet s (after s (entry.Published job low high mark)) (sound-after limits s (entry.Published job low high mark) fits sound)
+      (λ txn. refl) (still s (after s (entry.Published job low high mark)) refl) said
+  step limits s (entry.Empty job) fits is sound said =
+      quiet s (after s (entry.Empty job)) (sound-after limits s (entry.Empty job) fits sound)
+      (λ txn. refl) (still s (after s (entry.Empty job)) refl) said
+  step limits s (entry.Cleaned job) fits is sound said =
+      quiet s (after s (entry.Cleaned job)) (sound-after limits s (entry.Cleaned job) fits sound)
+      (λ txn. refl) (still s (after s (entry.Cleaned job)) refl) said
+  step limits s (entry.Failed job why) fits is sound said =
+      quiet s (after s (entry.Failed job why)) (sound-after limits s (entry.Failed job why) fits sound)
+      (λ txn. refl) (still s (after s (entry.Failed job why)) refl) said
+  step limits s (entry.Forgot table write) fits is sound said =
+      quiet s (after s (entry.Forgot table write)) (sound-after limits s (entry.Forgot table write) fits sound) (λ txn. refl)
+      (λ k w other wrote owner has.
+      let both = kept (forgot write.0) (λ t. refl) (λ t. refl) s.tables table.0 k w other owner in
       record { owner = both.0; writes = both.1 })
       said
   step limits s event fits is sound said = absurd fits

@@ -13,29 +13,30 @@ use Rattle.hv_logic.specs.declared.catalog.Shape.{Shape}
 use Rattle.hv_logic.specs.declared.catalog.TableInfo.{TableInfo}
 use Rattle.hv_logic.specs.declared.effect.Found.{Found}
 use Rattle.hv_route.specs.Standing.{insert_record, delete_record, stands_in}
-use Rattle.hv_dirs.specs.Choice.{sight_of}
 use Rattle.hv_wids.specs.WriteIds.{WriteIds}
+use Rattle.hv_history.specs.declared.entry.Entry.{Entry}
+use Rattle.hv_history.specs.declared.state.Table.{Table}
 use Rattle.hv_history.specs.declared.state.Written.{Written}
+use Rattle.hv_history.specs.State.{state_of}
+use Rattle.hv_earlier.specs.Lists.{list_at}
 use Rattle.hv_book.specs.Past.{total, only_if}
-use Rattle.hv_choosing.specs.declared.dir.Span.{Span}
 use Rattle.hv_choosing.specs.declared.listing.DirFile.{DirFile}
-use Rattle.hv_choosing.specs.Listing.{IsNamed, AreListed}
-use Rattle.hv_choosing.specs.Taken.{is_in_one, names_of, chosen_texts, runs, run_taken, files_taken}
-use Rattle.hv_choosing.proofs.Listed.{listed-named}
-use Rattle.hv_choosing.proofs.Partitions.{run-in}
-use Rattle.hv_stands.specs.Files.{records_of, own_place}
-use Rattle.hv_stands.specs.Sound.{HasOther, AreApart}
-use Rattle.hv_stands.proofs.Fitting.{fronts-fit}
+use Rattle.hv_choosing.specs.Listing.{AreListed}
+use Rattle.hv_choosing.specs.Taken.{files_taken}
+use Rattle.hv_stands.specs.Files.{records_of}
+use Rattle.hv_stands.specs.Sound.{HasOther, AreApart, HasSoundWrites}
+use Rattle.hv_stands.proofs.Fitting.{fitting-sound, fronts-fit}
 use Rattle.hv_stands.proofs.Numbers.{either}
+use Rattle.hv_stands.proofs.Soundness.{all-numbered}
 use Rattle.hv_table_rows.specs.Reading.{Sheet, sheet_file, IsSheet}
-use Rattle.hv_table_rows.proofs.Members.{In, all-in, kept-in, in-map, flat-in}
-use Rattle.hv_table_rows.proofs.OwnDirs.{own-named}
+use Rattle.hv_table_rows.proofs.Members.{In, all-in}
 use Rattle.hv_table_rows.proofs.TakenFiles.{tied}
-use Rattle.hv_table_rows.proofs.Shown.{IsReadable, Shows, one-write, taken-file, file_of_row, has-sheet}
-use Rattle.hv_table_rows.proofs.Shown as shown
-use Rattle.hv_table_rows.proofs.ReadContent.{commit-of}
-use Rattle.hv_table_rows.proofs.StoredRows.{shows}
-use Rattle.hv_counts.specs.Counts.{is_own_of, is_stored, stored_at, stored_sum}
+use Rattle.hv_table_rows.proofs.Shown.{one-write}
+use Rattle.hv_law_visible.specs.Members.{IsIn}
+use Rattle.hv_law_made.specs.Made.{rec_cmp}
+use Rattle.hv_law_read.specs.Reading.{ReadsAt}
+use Rattle.hv_law_read.proofs.OwnLemmas.{sorted-length, place_in, IsOfWrite, HasItsSheet, changed_rows, of-sheet, has-sheet}
+use Rattle.hv_counts.specs.Counts.{is_own_of, is_stored, stored_at, stored_sum, AreOwn}
 use Rattle.hv_law_dues.specs.Counting.{row_in, rows_in, rows_of, written_at, written_sum}
 use Rattle.hv_law_dues.specs.Laws.{FilesAreCounted}
 use Rattle.hv_law_dues.proofs.Totals.{total-map, total-none}
@@ -48,7 +49,7 @@ same-text a b e = (bytes_eq-Decides a b).0 e
 
 -- ---- a write and its rows
 
-same-rows : (deletes : Bool) (written : Written) → rows_of deletes written ≡ shown.rows_of deletes written
+same-rows : (deletes : Bool) (written : Written) → rows_of deletes written ≡ changed_rows deletes written
 same-rows false written = refl
 same-rows true written = refl
 
@@ -114,47 +115,27 @@ some-or-none w (first ∷ writes) = by (either (first.write == w)) (some-or-none
         of written (inl same) = ap (λ (x : Written). x.write == w) (sym same) ∙ e
         of written (inr h) = none written h
 
--- a file that is taken is one of those that are listed
-taken-named : (deletes : Bool) (list : WriteIds) (named : List DirFile) (file : DirFile) → In file (files_taken deletes list named) → In file named
-unfolding files_taken run_taken
-taken-named deletes list named file h =
-    let at = flat-in (run_taken deletes (sight_of list)) file (runs (length named) named) h in
-    let kept = kept-in (is_in_one (chosen_texts deletes (sight_of list) (names_of at.0))) file at.0 at.2 in
-    run-in (length named) named at.0 file at.1 kept.0
+-- the files that were read of a kind, each of one write, and each row's
+pub record AreOfWrites (info : TableInfo) (list : WriteIds) (files : Tree) (writes : List Written) (deletes : Bool) (named : List DirFile) (sheets : List Sheet) : Type 0 where
+  pub listed : AreListed (places_of info.table files) named
+  pub are : map sheet_file sheets ≡ files_taken deletes list named
+  pub apart : AreApart writes
+  pub of : (sheet : Sheet) → IsIn sheet sheets → IsOfWrite info deletes writes sheet
+  pub has : (written : Written) → IsIn written writes → (row : Found) → IsIn row (changed_rows deletes written) → HasItsSheet info deletes writes sheets written row
 
-module _ (info : TableInfo) (list : WriteIds) (files : Tree) (writes : List Written) (known : Shows info list files writes)
-    (deletes : Bool) (named : List DirFile) (listed : AreListed (places_of info.table files) named)
-    (sheets : List Sheet) (are : map sheet_file sheets ≡ files_taken deletes list named) (each : AllByRecursion (IsSheet deletes files) sheets) where
+module _ (info : TableInfo) (list : WriteIds) (files : Tree) (writes : List Written) (deletes : Bool) (named : List DirFile) (sheets : List Sheet)
+    (known : AreOfWrites info list files writes deletes named sheets) where
   -- ---- a file that was read is one of a write
 
-  record IsOf (sheet : Sheet) : Type 0 where
-    written : Written
-    among : In written writes
-    own : (w : ℕ) → is_own_of w sheet.file.dir ≡ (written.write == w)
-    place : sheet.file.place ≡ own_place info.table.0 sheet.file.place.partition deletes written.write sheet.file.place.bucket
-    count : length sheet.recs ≡ total (stand_at sheet.file.place.partition sheet.file.place.bucket) (rows_of deletes written)
+  own-is : (sheet : Sheet) (of : IsOfWrite info deletes writes sheet) → (w : ℕ) → is_own_of w sheet.file.dir ≡ (of.written.write == w)
+  own-is sheet of w = ap (is_own_of w) of.dir
 
-  of-write : (sheet : Sheet) → In sheet sheets → IsOf sheet
-  of-write sheet h =
-      let taken : In sheet.file (files_taken deletes list named) = subst (In sheet.file) are (in-map sheet_file sheet sheets h) in
-      let at = taken-file info list files writes known named listed deletes sheet.file taken in
-      let of = commit-of info list files writes known named listed deletes sheets are each sheet h in
-      let same : of.written ≡ at.written = one-write writes known.apart of.written at.written of.among at.among
-      (ap (λ (span : Span). span.low) (sym of.span ∙ at.span)) in
-      let readable = all-in (IsReadable info.shape list) writes known.readable at.written at.among in
-      let dir = own-named sheet.file.place.dir sheet.file.dir deletes at.written.write 0
-      (is-named sheet.file taken) (ap (λ (p : Place). p.dir) at.place) readable.last in record {
-        written = at.written;
-        among = at.among;
-        own = λ w. ap (is_own_of w) dir.1;
-        place = at.place;
-        count = ap length of.recs
-            ∙ ap (λ (x : Written). length (records_of info.shape deletes sheet.file.place.partition sheet.file.place.bucket x)) same
-            ∙ record-count info.shape deletes sheet.file.place.partition sheet.file.place.bucket at.written;
-      }
-    where
-      is-named : (file : DirFile) → In file (files_taken deletes list named) → IsNamed file
-      is-named file k = all-in IsNamed named (listed-named (places_of info.table files) named listed) file (taken-named deletes list named file k)
+  count-is : (sheet : Sheet) (of : IsOfWrite info deletes writes sheet)
+      → length sheet.recs ≡ total (stand_at sheet.file.place.partition sheet.file.place.bucket) (rows_of deletes of.written)
+  count-is sheet of =
+      ap length of.recs
+      ∙ sorted-length rec_cmp (records_of info.shape deletes sheet.file.place.partition sheet.file.place.bucket of.written)
+      ∙ record-count info.shape deletes sheet.file.place.partition sheet.file.place.bucket of.written
 
   -- ---- of a write id without a write
 
@@ -163,8 +144,8 @@ module _ (info : TableInfo) (list : WriteIds) (files : Tree) (writes : List Writ
     none-stored none =
         total-among (stored_at w partition) (λ (sheet : Sheet). 0) sheets
         (λ sheet h.
-        let of = of-write sheet h in
-        ap (λ b. only_if (b && pointwise nat_eq sheet.file.place.partition partition) (length sheet.recs)) (of.own w ∙ none of.written of.among))
+        let of = known.of sheet h in
+        ap (λ b. only_if (b && pointwise nat_eq sheet.file.place.partition partition) (length sheet.recs)) (own-is sheet of w ∙ none of.written of.among))
         ∙ total-none (λ (sheet : Sheet). 0) (λ sheet. refl) sheets
 
     -- ---- of one that has a write
@@ -178,15 +159,15 @@ module _ (info : TableInfo) (list : WriteIds) (files : Tree) (writes : List Writ
 
       -- a file of this id and partition
       record IsHere (sheet : Sheet) : Type 0 where
-        of : IsOf sheet
+        of : IsOfWrite info deletes writes sheet
         same : of.written ≡ written
         there : sheet.file.place.partition ≡ partition
 
       here-of : (sheet : Sheet) → In sheet sheets → is_stored w partition sheet.file ≡ true → IsHere sheet
       here-of sheet h e =
-          let of_sheet = of-write sheet h in
+          let of_sheet = known.of sheet h in
           let both = and_parts (is_own_of w sheet.file.dir) (pointwise nat_eq sheet.file.place.partition partition) e in
-          let id = eqb-true of_sheet.written.write w (sym (of_sheet.own w) ∙ both.0) in record {
+          let id = eqb-true of_sheet.written.write w (sym (own-is sheet of_sheet w) ∙ both.0) in record {
             of = of_sheet;
             same = one-write writes known.apart of_sheet.written written of_sheet.among among (id ∙ sym is);
             there = same-text sheet.file.place.partition partition both.1;
@@ -200,13 +181,13 @@ module _ (info : TableInfo) (list : WriteIds) (files : Tree) (writes : List Writ
           by : (b : Bool) → is_stored w partition sheet.file ≡ b → only_if b (length sheet.recs) ≡ only_if b (total (has_row sheet) (rows_of deletes written))
           by true e =
               let at = here-of sheet h e in
-              at.of.count ∙ (λ i. total (stand_at (at.there i) sheet.file.place.bucket) (rows_of deletes (at.same i)))
+              count-is sheet at.of ∙ (λ i. total (stand_at (at.there i) sheet.file.place.bucket) (rows_of deletes (at.same i)))
           by false e = refl
 
       -- ---- each row stands in one of them
 
       abbrev place_of : Found → Place
-      place_of row = own_place info.table.0 partition deletes written.write row.id.bucket
+      place_of row = place_in info.table.0 partition deletes written row.id.bucket
 
       at-most : (row : Found) (sheet : Sheet) → In sheet sheets → stored_row row sheet ≤ at_place (place_of row) sheet.file.place
       at-most row sheet h = by (is_stored w partition sheet.file) refl
@@ -218,7 +199,7 @@ module _ (info : TableInfo) (list : WriteIds) (files : Tree) (writes : List Writ
               let parts = and_parts (pointwise nat_eq row.partition partition) (row.id.bucket == sheet.file.place.bucket) stands in
               let bucket : row.id.bucket ≡ sheet.file.place.bucket = eqb-true row.id.bucket sheet.file.place.bucket parts.1 in
               let same : sheet.file.place ≡ place_of row =
-              at.of.place ∙ (λ i. own_place info.table.0 (at.there i) deletes (at.same i).write (sym bucket i)) in
+              at.of.place ∙ (λ i. place_in info.table.0 (at.there i) deletes (at.same i) (sym bucket i)) in
               let tie = ap (λ p. at_place (place_of row) p) same ∙ ap (λ b. only_if b 1) (tied place_total (place_of row)) in
               omega (arith, tie)
 
@@ -230,22 +211,23 @@ module _ (info : TableInfo) (list : WriteIds) (files : Tree) (writes : List Writ
       one-most row =
           let most = total-most (stored_row row) (λ (sheet : Sheet). at_place (place_of row) sheet.file.place) sheets (at-most row) in
           let of_files = sym (total-map (λ (file : DirFile). at_place (place_of row) file.place) sheet_file sheets) in
-          let taken = ap (total (λ (file : DirFile). at_place (place_of row) file.place)) are in
-          let one = one-taken info.table files deletes list named (place_of row) listed in
+          let taken = ap (total (λ (file : DirFile). at_place (place_of row) file.place)) known.are in
+          let one = one-taken info.table files deletes list named (place_of row) known.listed in
           omega (arith, most, of_files, taken, one)
 
       -- the row's own file is among them
       one-least : (row : Found) → In row (rows_of deletes written) → row.partition ≡ partition → 1 ≤ total (stored_row row) sheets
       one-least row h there =
-          let at = has-sheet info list files writes known named listed deletes sheets are written row among (subst (In row) (same-rows deletes written) h) in
-          let own = ap (λ (file : DirFile). only_if (is_stored w partition file) (stand_at partition file.place.bucket row)) at.2 in
-          let stored : is_stored w partition (file_of_row info list files writes known named listed deletes written row) ≡ true =
-          (λ i. eq-eqb written.write w is i && (bytes_eq-Decides row.partition partition).1 there i) in
-          let stands : stands_in partition row.id.bucket row ≡ true =
-          (λ i. (bytes_eq-Decides row.partition partition).1 there i && eq-eqb row.id.bucket row.id.bucket refl i) in
-          let is_one : stored_row row at.0 ≡ 1 =
-          own ∙ ap (λ b. only_if b (stand_at partition row.id.bucket row)) stored ∙ ap (λ b. only_if b 1) stands in
-          let all = total-one (stored_row row) at.0 sheets at.1 in
+          let at = known.has written among row (subst (IsIn row) (same-rows deletes written) h) in
+          let id_is : is_own_of w at.sheet.file.dir ≡ true =
+          own-is at.sheet at.of w ∙ eq-eqb at.of.written.write w (ap (λ (x : Written). x.write) at.same ∙ is) in
+          let stored : is_stored w partition at.sheet.file ≡ true =
+          (λ i. id_is i && (bytes_eq-Decides at.sheet.file.place.partition partition).1 (at.partition_is ∙ there) i) in
+          let stands : stands_in partition at.sheet.file.place.bucket row ≡ true =
+          (λ i. (bytes_eq-Decides row.partition partition).1 there i && eq-eqb row.id.bucket at.sheet.file.place.bucket (sym at.bucket_is) i) in
+          let is_one : stored_row row at.sheet ≡ 1 =
+          ap (λ b. only_if b (stand_at partition at.sheet.file.place.bucket row)) stored ∙ ap (λ b. only_if b 1) stands in
+          let all = total-one (stored_row row) at.sheet sheets at.among in
           omega (arith, is_one, all)
 
       row-once : (row : Found) → In row (rows_of deletes written) → total (stored_row row) sheets ≡ row_in partition row
@@ -281,7 +263,23 @@ module _ (info : TableInfo) (list : WriteIds) (files : Tree) (writes : List Writ
         by (inl some) = some-stored some.0 some.1 some.2 ∙ sym (one-written deletes w partition writes some.0 known.apart some.1 some.2)
         by (inr none) = none-stored none ∙ sym (none-written deletes w partition writes none)
 
+-- what an open transaction reads
+of-writes : (book : List Entry) (txn place : ℕ) (table : Table) (files : Tree) (at : ReadsAt book txn place table files) (deletes : Bool) (named : List DirFile) (sheets : List Sheet)
+    → AreListed (places_of table.info.table files) named → map sheet_file sheets ≡ files_taken deletes (list_at book place table.info.table.0) named
+    → AllByRecursion (IsSheet deletes files) sheets
+    → AreOwn (files_taken deletes (list_at book place table.info.table.0) named) → AreOwn (files_taken false (list_at book place table.info.table.0) named)
+    → AreOfWrites table.info (list_at book place table.info.table.0) files table.writes deletes named sheets
+of-writes book txn place table files at deletes named sheets listed are each own rows_own = record {
+  listed = listed;
+  are = are;
+  apart = (all-numbered HasSoundWrites (state_of (take place book)).tables table.info.table.0 table at.stood
+      (fitting-sound (take place book) (fronts-fit book place at.fit)).tables.written).apart;
+  of = of-sheet book txn place table files at deletes named listed sheets are each own rows_own;
+  has = λ written among row row_among. has-sheet book txn place table files at deletes named listed sheets are each own rows_own written among row row_among;
+}
+
 pub files-counted : FilesAreCounted
-files-counted book place files table list legal stored deletes named sheets listed are each write partition =
-    stored-written table.info list files table.writes (shows book place files table list stored) deletes named listed sheets are each write partition
-    ∙ sym (book-dues (take place book) (fronts-fit book place legal.fit) (truthful-front book place legal.truthful) table.info.table.0 table stored.here deletes write partition)
+files-counted book txn place table files legal at deletes named sheets listed are each own rows_own write partition =
+    stored-written table.info (list_at book place table.info.table.0) files table.writes deletes named sheets
+    (of-writes book txn place table files at deletes named sheets listed are each own rows_own) write partition
+    ∙ sym (book-dues (take place book) (fronts-fit book place legal.fit) (truthful-front book place legal.truthful) table.info.table.0 table at.stood deletes write partition)

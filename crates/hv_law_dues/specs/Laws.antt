@@ -1,5 +1,5 @@
 -- What commits say of their rows is what they wrote, and what stands in their files.
-use Rattle.std.specs.Prelude.{◌≡◌, ℕ, Bool, Some, List, map, take}
+use Rattle.std.specs.Prelude.{◌≡◌, ℕ, Bool, false, Some, List, map, take}
 use Rattle.std.specs.List.{AllByRecursion}
 use Rattle.hv_shelf.specs.Disk.{Tree, places_of}
 use Rattle.hv_logic.specs.declared.catalog.Shape.{Shape}
@@ -7,17 +7,17 @@ use Rattle.hv_logic.specs.declared.catalog.TableInfo.{TableInfo}
 use Rattle.hv_logic.specs.declared.effect.Effect.{Effect}
 use Rattle.hv_route.specs.Routes.{files_of}
 use Rattle.hv_route.specs.Touching.{touches_of}
-use Rattle.hv_wids.specs.WriteIds.{WriteIds}
 use Rattle.hv_history.specs.declared.entry.Entry.{Entry}
 use Rattle.hv_history.specs.declared.state.Table.{Table}
 use Rattle.hv_history.specs.State.{state_of, numbered}
 use Rattle.hv_history.specs.Legal.{profile, IsLegal}
+use Rattle.hv_earlier.specs.Lists.{list_at}
 use Rattle.hv_choosing.specs.declared.listing.DirFile.{DirFile}
 use Rattle.hv_choosing.specs.Listing.{AreListed}
 use Rattle.hv_choosing.specs.Taken.{files_taken}
-use Rattle.hv_table_rows.specs.Laws.{StoodAt}
 use Rattle.hv_table_rows.specs.Reading.{Sheet, sheet_file, IsSheet}
-use Rattle.hv_counts.specs.Counts.{dues_in, due_sum, IsCounted}
+use Rattle.hv_law_read.specs.Reading.{ReadsAt}
+use Rattle.hv_counts.specs.Counts.{dues_in, due_sum, IsCounted, AreOwn}
 use Rattle.hv_law_dues.specs.Counting.{rows_in, changed_rows, touched_in, recorded_in, written_sum}
 
 -- the touches of a change say of each partition how many of its rows are inserted there, and how many deleted
@@ -40,12 +40,14 @@ DuesCountWrites =
     → (deletes : Bool) (write : ℕ) (partition : List ℕ)
     → due_sum deletes write partition (dues_in (state_of book) number) ≡ written_sum deletes write partition table.writes
 
--- Where the files of a legal book stand, those that are taken of a table under the list that it had at a place have just the
--- records that the commits before that place say.
+-- Where an open transaction reads a live table of a legal book, and all files that it takes of a kind and of the rows stand in own directories,
+-- they have just the records that the commits before its snapshot say. A base or a wide delta doesn't say what was written by each, and where
+-- a base is taken it takes no deletes of what that covers.
 abbrev pub FilesAreCounted : Type 0
 FilesAreCounted =
-    (book : List Entry) (place : ℕ) (files : Tree) (table : Table) (list : WriteIds)
-    → IsLegal profile book → StoodAt book place files table list
+    (book : List Entry) (txn place : ℕ) (table : Table) (files : Tree) → IsLegal profile book → ReadsAt book txn place table files
     → (deletes : Bool) (named : List DirFile) (sheets : List Sheet)
-    → AreListed (places_of table.info.table files) named → map sheet_file sheets ≡ files_taken deletes list named → AllByRecursion (IsSheet deletes files) sheets
+    → AreListed (places_of table.info.table files) named → map sheet_file sheets ≡ files_taken deletes (list_at book place table.info.table.0) named
+    → AllByRecursion (IsSheet deletes files) sheets
+    → AreOwn (files_taken deletes (list_at book place table.info.table.0) named) → AreOwn (files_taken false (list_at book place table.info.table.0) named)
     → IsCounted deletes (dues_in (state_of (take place book)) table.info.table.0) sheets

@@ -15,8 +15,8 @@ pub fn dues_count_writes()
     ensures law { DuesCountWrites }
 {}
 
-/// Where the files of a legal book stand, those of a table that are read as of a place of the book have as many records as the
-/// commits before that place say.
+/// Where an open transaction reads a table of a legal book from own directories alone, the files have as many records as the commits
+/// before its snapshot say.
 pub fn files_are_counted()
     ensures law { FilesAreCounted }
 {}

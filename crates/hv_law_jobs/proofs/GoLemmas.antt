@@ -14,14 +14,15 @@ use Rattle.hv_history.specs.declared.state.Table.{Table}
 use Rattle.hv_history.specs.declared.state.Transaction.{Transaction}
 use Rattle.hv_history.specs.declared.state.Written.{Written}
 use Rattle.hv_history.specs.State.{State, Job, numbered, changed, first_of, owned, dropped, forgot, written_to, tables_behind, commits, made_by, asked_job, picked, published_at, empty_at, failed_at, cleaned, acted, after, nothing_yet}
-use Rattle.hv_history.specs.Legal.{GivenFits, is_working}
+use Rattle.hv_history.specs.Legal.{GivenFits, is_working, AllFit}
 use Rattle.hv_history.specs.Jobs.{is_initiated, is_busy, is_job_of, jobs_in, is_live_one, events_in, watermark}
-use Rattle.hv_history.specs.JobsFit.{PickedFits, PublishedFits, EmptyFits, FailedFits, CleanedFits, is_live_job, first_initiated, AllJobsFit}
+use Rattle.hv_history.specs.JobsFit.{PickedFits, PublishedFits, EmptyFits, FailedFits, CleanedFits, is_live_job, first_initiated}
 use Rattle.hv_history.proofs.LastingLaws.{goes-on}
 use Rattle.hv_law_jobs.specs.Sound.{is_of_write, HasSoundRange, IsUnder, IsSoundJob, GoFurther, IsBelowMark, IsFollowed, IsFollowedIn, AreInOrder, IsOpened, HasOpened, AreOwned, AreSoundJobs, JobsGoOn, JobsAreSound}
 use Rattle.hv_law_jobs.proofs.GrowLemmas.{Grows, is-some-of, opened-stays, it-grows, range-stays, job-stays}
 use Rattle.hv_law_jobs.proofs.OrderLemmas.{some-same, all-more, all-append, all-changed, numbered-all, all-numbers, filtered-all, job-of-is, job-of-back, all-changed-here, order-changed, order-more}
-use Rattle.hv_law_jobs.proofs.PublishLemmas.{none-is, unpublished, busy, range-is-sound, within-mark, reaches-further}
+use Rattle.hv_law_jobs.proofs.MergeLemmas.{none-is}
+use Rattle.hv_law_jobs.proofs.PublishLemmas.{unpublished, busy, range-is-sound, within-mark, reaches-further}
 
 -- ---- write ids
 
@@ -391,7 +392,7 @@ jobs-go-on limits state (entry.Alter txn table) fits sound = absurd fits
 nothing-sound : AreSoundJobs nothing_yet
 nothing-sound = record { each = tt; order = tt; owned = tt }
 
-all-go-on : (limits : Limits) (book : List Entry) (state : State) → AllJobsFit limits state book → AreSoundJobs state → AreSoundJobs (fold after state book)
+all-go-on : (limits : Limits) (book : List Entry) (state : State) → AllFit limits state book → AreSoundJobs state → AreSoundJobs (fold after state book)
 all-go-on limits [] state fit sound = sound
 all-go-on limits (event ∷ book) state fit sound = all-go-on limits book (after state event) fit.1 (jobs-go-on limits state event fit.0 sound)
 

@@ -5,5 +5,6 @@ pub mod LastLemmas
 pub mod GrowLemmas
 pub mod OrderLemmas
 pub mod CountLemmas
+pub mod MergeLemmas
 pub mod PublishLemmas
 pub mod GoLemmas

@@ -8,8 +8,7 @@ use Rattle.hv_history.specs.declared.entry.JobCause.TheVariants as job_cause
 use Rattle.hv_history.specs.declared.entry.JobKind.{JobKind}
 use Rattle.hv_history.specs.declared.entry.JobKind.TheVariants.{Minor, Major}
 use Rattle.hv_history.specs.State.{state_of}
-use Rattle.hv_history.specs.Legal.{profile}
-use Rattle.hv_history.specs.JobsFit.{JobFits}
+use Rattle.hv_history.specs.Legal.{profile, Fits}
 use Rattle.hv_law_jobs.specs.Worked.{north, south, touch, opened, committed, asked, asked_by, picked, published, ran, one, four, below_open, with_aborted, with_open}
 
 -- ---- entries
@@ -54,10 +53,10 @@ abbrev pub faulted : List Entry
 faulted = four ++ opened 6 ∷ entry.Abort (record { 0 = 6 }) (cause.ReadFault 7) ∷ asked 1 Major ∷ picked 1 4 ∷ []
 
 abbrev pub Fit : List Entry → Entry → Type 0
-Fit book event = JobFits profile (state_of book) event
+Fit book event = Fits profile (state_of book) event
 
 abbrev pub Misfit : List Entry → Entry → Type 0
-Misfit book event = JobFits profile (state_of book) event → ⊥
+Misfit book event = Fits profile (state_of book) event → ⊥
 
 -- asking and taking up
 pub record AskingByHand : Type 0 where

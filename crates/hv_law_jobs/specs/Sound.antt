@@ -12,7 +12,8 @@ use Rattle.hv_history.specs.declared.state.Table.{Table}
 use Rattle.hv_history.specs.declared.state.Transaction.{Transaction}
 use Rattle.hv_history.specs.State.{State, Job, numbered, after, nothing_yet, state_of}
 use Rattle.hv_history.specs.Jobs.{Events, is_job_of, is_kind, is_busy, events_in, watermark}
-use Rattle.hv_history.specs.JobsFit.{JobFits, AllJobsFit, PublishedFits}
+use Rattle.hv_history.specs.JobsFit.{PublishedFits}
+use Rattle.hv_history.specs.Legal.{Fits, AllFit}
 
 -- ---- one job
 
@@ -99,11 +100,11 @@ pub record AreSoundJobs (state : State) : Type 0 where
 
 -- each entry that fits keeps it
 abbrev pub JobsGoOn : Type 0
-JobsGoOn = (limits : Limits) (state : State) (event : Entry) → JobFits limits state event → AreSoundJobs state → AreSoundJobs (after state event)
+JobsGoOn = (limits : Limits) (state : State) (event : Entry) → Fits limits state event → AreSoundJobs state → AreSoundJobs (after state event)
 
 -- so it holds of every book whose entries fit
 abbrev pub JobsAreSound : Type 0
-JobsAreSound = (limits : Limits) (book : List Entry) → AllJobsFit limits nothing_yet book → AreSoundJobs (state_of book)
+JobsAreSound = (limits : Limits) (book : List Entry) → AllFit limits nothing_yet book → AreSoundJobs (state_of book)
 
 -- a published job that has this name for one of its directories, or covers a directory of it
 abbrev pub IsOfJobs : State → Job → (JobKind → ℕ → ℕ → Type 0) → Type 0

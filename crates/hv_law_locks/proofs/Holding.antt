@@ -14,7 +14,7 @@ use Rattle.hv_history.specs.declared.state.Snapshot.{Snapshot}
 use Rattle.hv_history.specs.declared.state.Ending.{Ending}
 use Rattle.hv_history.specs.declared.state.Transaction.{Transaction}
 use Rattle.hv_history.specs.declared.state.Ending.TheVariants.{Committed, Aborted, Made, Dropped}
-use Rattle.hv_history.specs.State.{State, numbered, changed, owned, dropped, commits, made_by, ended, did, committed, given_id, opened, opening_tree, acted, after, nothing_yet, state_of}
+use Rattle.hv_history.specs.State.{State, numbered, changed, owned, dropped, commits, made_by, ended, did, committed, given_id, opened, opening_tree, acted, after, nothing_yet, state_of, forgot}
 use Rattle.hv_history.specs.Legal.{is_open, is_started, IsRunning, StartFits, CreateFits, DropFits, Fits, AllFit, locks_of, locks_conflict, holds_against, is_named, is_named_there, is_create, made_name, is_drop, dropped_name}
 use Rattle.hv_stands.proofs.Numbers.{one_value, found, numbered-or-last}
 use Rattle.hv_law_locks.specs.Locked.{IsApart, AreApart, StaysNamed, StaysLocked, KeepsNames, LocksHold}
@@ -147,6 +147,14 @@ module _ (state : State) (k : ℕ) (t : Transaction) (here : numbered state.tran
 never-ended : (ending : Ending) (x : Transaction) → is_open (ended ending x) ≡ true → ⊥
 never-ended ending x e = let wrong : false ≡ true = e in cc
 
+-- an entry that changes neither transactions nor tables
+of-no-transaction : (state now : State) → LocksHold state → now.transactions ≡ state.transactions → now.tables ≡ state.tables → LocksHold now
+of-no-transaction state now hold transactions tables =
+    goes-on state now hold
+    (λ n t at running. was-same state.transactions n t (ap (λ ts. numbered ts n) (sym transactions) ∙ at) running.unended)
+    (λ n t at running. subst (λ (ts : List Table). AllByRecursion (StaysLocked state.tables ts) (locks_of t)) (sym tables)
+    (all-names state.tables state.tables (named-same state.tables) (locks_of t)))
+
 pub holds-after : (limits : Limits) (state : State) (event : Entry) → Fits limits state event → LocksHold state → LocksHold (after state event)
 unfolding acted
 holds-after limits state (entry.Boot run) fits hold =
@@ -193,13 +201,16 @@ holds-after limits state (entry.Drop txn table) fits hold =
     (λ n x at running.
     let other = came-ended (ended (Dropped state.entries table.0)) (never-ended (Dropped state.entries table.0)) state.transactions txn.0 n x at running.unended in
     dropped-names state txn.0 t.0 t.1 t.2.running hold t.2.drop table.0 t.2.named n x other.0 other.1 running)
-holds-after limits state (entry.Asked job table partition kind by) fits hold = absurd fits
-holds-after limits state (entry.Picked job watermark) fits hold = absurd fits
-holds-after limits state (entry.Published job low high mark) fits hold = absurd fits
-holds-after limits state (entry.Empty job) fits hold = absurd fits
-holds-after limits state (entry.Cleaned job) fits hold = absurd fits
-holds-after limits state (entry.Failed job cause) fits hold = absurd fits
-holds-after limits state (entry.Forgot table write) fits hold = absurd fits
+holds-after limits state (entry.Asked job table partition kind by) fits hold = of-no-transaction state (after state (entry.Asked job table partition kind by)) hold refl refl
+holds-after limits state (entry.Picked job watermark) fits hold = of-no-transaction state (after state (entry.Picked job watermark)) hold refl refl
+holds-after limits state (entry.Published job low high mark) fits hold = of-no-transaction state (after state (entry.Published job low high mark)) hold refl refl
+holds-after limits state (entry.Empty job) fits hold = of-no-transaction state (after state (entry.Empty job)) hold refl refl
+holds-after limits state (entry.Cleaned job) fits hold = of-no-transaction state (after state (entry.Cleaned job)) hold refl refl
+holds-after limits state (entry.Failed job cause) fits hold = of-no-transaction state (after state (entry.Failed job cause)) hold refl refl
+holds-after limits state (entry.Forgot table write) fits hold =
+    goes-on state (after state (entry.Forgot table write)) hold (λ n t at running. was-same state.transactions n t at running.unended)
+    (λ n t at running. all-names state.tables (changed (forgot write.0) state.tables table.0)
+    (λ name. named-changed (forgot write.0) name state.tables table.0 (λ x e. refl)) (locks_of t))
 holds-after limits state (entry.Next txn statement number text) fits hold = absurd fits
 holds-after limits state (entry.Did txn statement wrote) fits hold = absurd fits
 holds-after limits state (entry.Alter txn table) fits hold = absurd fits

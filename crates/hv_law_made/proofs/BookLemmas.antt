@@ -18,14 +18,14 @@ use Rattle.hv_history.specs.declared.state.Transaction.{Transaction}
 use Rattle.hv_history.specs.declared.state.Written.{Written}
 use Rattle.hv_history.specs.State.{State, Job, numbered, changed, changed_at, given_in, writes_of, written_by, wrote_as, commits, tables_behind, written_to, owned, dropped, forgot, made_by, asked_job, picked, published_at, empty_at, failed_at, cleaned, acted, after, nothing_yet}
 use Rattle.hv_history.specs.Lasting.{GoesOn}
-use Rattle.hv_history.specs.Legal.{CommitFits}
-use Rattle.hv_history.specs.JobsFit.{JobFits, AllJobsFit, ForgotFits, is_aborted_by, is_aborted_one, is_aborted_id}
+use Rattle.hv_history.specs.Legal.{CommitFits, Fits, AllFit}
+use Rattle.hv_history.specs.JobsFit.{ForgotFits, is_aborted_by, is_aborted_one, is_aborted_id}
 use Rattle.hv_history.proofs.LastingLaws.{goes-on}
 use Rattle.hv_stands.specs.Files.{ending_of}
-use Rattle.hv_stands.specs.Sound.{info_in, IsSingle, IsSoundBase}
+use Rattle.hv_stands.specs.Sound.{info_in, IsSingle, IsSound}
 use Rattle.hv_stands.proofs.Numbers.{found, numbered-map, numbered-more}
 use Rattle.hv_stands.proofs.Soundness.{all-numbered}
-use Rattle.hv_stands.proofs.JobKeeping.{base-next, nothing-base}
+use Rattle.hv_stands.proofs.Keeping.{sound-after, nothing-sound}
 use Rattle.hv_law_jobs.proofs.OrderLemmas.{all-more, all-append, all-changed, all-changed-here}
 use Rattle.hv_law_jobs.proofs.GrowLemmas.{ended-same}
 use Rattle.hv_law_jobs.proofs.GoLemmas.{jobs-go-on}
@@ -69,7 +69,7 @@ behind-few (w ∷ ws) each tables h =
     behind-few ws each.1 (changed (written_to w.1) tables w.0)
     (all-changed HasFewStatements (written_to w.1) (λ t few. all-append IsFewStatement t.writes (w.1 ∷ []) few (each.0, tt)) tables w.0 h)
 
-statements-next : (limits : Limits) (s : State) (event : Entry) → JobFits limits s event → IsSoundBase s → AllByRecursion HasFewStatements s.tables
+statements-next : (limits : Limits) (s : State) (event : Entry) → Fits limits s event → IsSound s → AllByRecursion HasFewStatements s.tables
     → AllByRecursion HasFewStatements (after s event).tables
 unfolding acted
 statements-next limits s (entry.Given txn table write) fits sound h = all-changed HasFewStatements (owned txn.0) (λ t few. few) s.tables table.0 h
@@ -156,7 +156,7 @@ module _ (endings : List (Option Ending)) where
       all-changed-here (ForgetsAborted endings) (ForgetsAborted endings) (forgot write) (λ t each. each) tables k which at
       (λ each. all-append (IsOfAborted endings which.owners) which.forgotten (write ∷ []) each (of, tt)) h
 
-forgotten-next : (limits : Limits) (s : State) (event : Entry) → JobFits limits s event
+forgotten-next : (limits : Limits) (s : State) (event : Entry) → Fits limits s event
     → AllByRecursion (ForgetsAborted (map ending_of (after s event).transactions)) s.tables
     → AllByRecursion (ForgetsAborted (map ending_of (after s event).transactions)) (after s event).tables
 unfolding acted
@@ -200,7 +200,7 @@ length-changed f xs (suc n) = length-changed_at f xs n
 few-more : (s : State) (jobs : List Job) → length jobs ≡ length s.jobs → length s.jobs ≤ s.entries → length jobs ≤ s.entries + 1
 few-more s jobs same few = omega (arith, same, few)
 
-jobs-few : (limits : Limits) (s : State) (event : Entry) → JobFits limits s event → length s.jobs ≤ s.entries → length (after s event).jobs ≤ s.entries + 1
+jobs-few : (limits : Limits) (s : State) (event : Entry) → Fits limits s event → length s.jobs ≤ s.entries → length (after s event).jobs ≤ s.entries + 1
 unfolding acted
 jobs-few limits s (entry.Asked job table partition kind by) fits few =
     let its = asked_job s.entries table.0 partition kind by in
@@ -233,7 +233,7 @@ pub books-go-on : BooksGoOn
 books-go-on limits state event fits sound = record {
   jobs = jobs-go-on limits state event fits sound.jobs;
   few_jobs = jobs-few limits state event fits sound.few_jobs;
-  base = base-next limits state event fits sound.base;
+  base = sound-after limits state event fits sound.base;
   statements = statements-next limits state event fits sound.base sound.statements;
   forgotten = forgotten-next limits state event fits (forgets-later state (after state event) (goes-on state event) sound.forgotten);
 }
@@ -242,12 +242,12 @@ nothing-yet : IsSoundBook nothing_yet
 nothing-yet = record {
   jobs = record { each = tt; order = tt; owned = tt };
   few_jobs = omega arith;
-  base = nothing-base;
+  base = nothing-sound;
   statements = tt;
   forgotten = tt;
 }
 
-all-go-on : (limits : Limits) (book : List Entry) (state : State) → AllJobsFit limits state book → IsSoundBook state → IsSoundBook (fold after state book)
+all-go-on : (limits : Limits) (book : List Entry) (state : State) → AllFit limits state book → IsSoundBook state → IsSoundBook (fold after state book)
 all-go-on limits [] state fit sound = sound
 all-go-on limits (event ∷ book) state fit sound = all-go-on limits book (after state event) fit.1 (books-go-on limits state event fit.0 sound)
 

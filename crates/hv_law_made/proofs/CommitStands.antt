@@ -1,11 +1,10 @@
 -- A commit keeps all standing: its writes are under ids above all that is published, so that nothing which was made has one record more, and
 -- its own directories have just the files that it makes.
-use Rattle.std.proofs.Common.{refl, ◌≡◌, ◌⊎◌, inl, inr, ℕ, ◌<◌, ◌==◌, ◌&&◌, nat_eq, nat_le, Bool, true, false, cond, is_some, IsSome, Option, Some, None, List, [], ◌∷◌, ◌++◌, map, filter, sym, ap, ◌∙◌, subst, arith, eqb-true, leb-true, true≢false}
+use Rattle.std.proofs.Common.{refl, ◌≡◌, ◌⊎◌, inl, inr, ℕ, ◌<◌, ◌==◌, ◌&&◌, nat_eq, nat_le, Bool, true, false, cond, is_some, Option, Some, None, List, [], ◌∷◌, ◌++◌, map, filter, sym, ap, ◌∙◌, subst, arith, eqb-true, leb-true, true≢false}
 use Rattle.std.specs.Cmp.Lexicographic.{pointwise}
 use Rattle.std.specs.FinMap as finmap
 use Rattle.std.specs.List.{flat_map, list_any, AllByRecursion}
 use Rattle.std.proofs.lemmas.Bool.{and_parts, false_from_ne_true}
-use Rattle.std.proofs.lemmas.List.{append-nil}
 use Rattle.hv_base.specs.declared.ids.Touch.{Touch}
 use Rattle.hv_base.specs.declared.ids.TxnId.{TxnId}
 use Rattle.hv_base.specs.Sorting.{sorted_by}
@@ -13,7 +12,6 @@ use Rattle.hv_shelf.specs.declared.place.Place.{Place}
 use Rattle.hv_shelf.specs.Disk.{Tree}
 use Rattle.hv_logic.specs.declared.catalog.Shape.{Shape}
 use Rattle.hv_route.specs.Standing.{insert_record, stands_in}
-use Rattle.hv_rowfile.specs.declared.record.Rec.{Rec}
 use Rattle.hv_dirs.specs.declared.names.DirName.{DirName}
 use Rattle.hv_dirs.specs.declared.names.DirName.TheVariants as dir
 use Rattle.hv_dirs.specs.Names.{text_of}
@@ -25,16 +23,16 @@ use Rattle.hv_history.specs.declared.state.Table.{Table}
 use Rattle.hv_history.specs.declared.state.Transaction.{Transaction}
 use Rattle.hv_history.specs.declared.state.Written.{Written}
 use Rattle.hv_history.specs.State.{State, Job, numbered, content_of, acted, after, changed, while_open}
-use Rattle.hv_stands.specs.Files.{AreEncoded, IsLoose, IsOwn, ending_of, records_of}
+use Rattle.hv_stands.specs.Files.{AreEncoded, IsOwn, ending_of, records_of}
 use Rattle.hv_stands.specs.Sound.{IsOfCommitted}
 use Rattle.hv_stands.proofs.Numbers.{same_one}
 use Rattle.hv_stands.proofs.Soundness.{all-numbered}
 use Rattle.hv_history.specs.Jobs.{is_job_of, jobs_of}
 use Rattle.hv_jobs.specs.Covers.{names_by, job_names, covers_by, covers, is_freed, cleans, is_cleaned_away}
-use Rattle.hv_law_made.specs.Made.{has_written, rec_cmp, delta_recs, is_up_to, rows_up_to, base_recs, in_partition, if_bare, some_or, name_file, write_names, names_in, has_events, is_made, jobs_at, made_recs, is_gone}
+use Rattle.hv_law_made.specs.Made.{has_written, rec_cmp, delta_recs, is_up_to, base_recs, in_partition, if_bare, some_or, name_file, write_names, has_events, is_made, jobs_at, made_recs, is_gone}
 use Rattle.hv_law_made.specs.Named.{HasNames, AllHaveNames}
 use Rattle.hv_law_made.specs.Standing.{IsStagedAt, is_live_table, is_live_at, Standing}
-use Rattle.hv_law_made.specs.Laws.{Holds, IsFiledFor, IsAsked, KeepsNames, IsBelow, IsNewWrite, GetsWrites, IsCommitting, CommittedStands}
+use Rattle.hv_law_made.specs.Laws.{Holds, ChangesAt, KeepsNames, IsBelow, GetsWrites, IsCommitting, CommittedStands}
 use Rattle.hv_law_made.proofs.NamedLemmas.{gone-by}
 use Rattle.hv_law_made.proofs.UnmadeLemmas.{IsOwnName, own-name, done-undone, names-here}
 use Rattle.hv_law_made.proofs.FrameLemmas.{changed-stands}
@@ -279,7 +277,7 @@ module _ (state : State) (txn : TxnId) (wrote : List Touch) (now : State)
   commit-live : (place : Place) → is_live_at now place ≡ is_live_at state place
   commit-live place = live-by place (numbered state.tables place.table.0) refl
 
-  commit-grows : Grows state now Own_of
+  pub commit-grows : Grows state now Own_of
   commit-grows = record {
     named = named;
     named_now = behind;
@@ -307,3 +305,10 @@ unfolding acted
 committed-stands state txn wrote files to names filed standing =
     commit-stands state txn wrote (after state (entry.Commit txn wrote)) _ refl refl names.before names.behind to.unended to.tables to.none to.above
     files filed.at filed.encoded standing
+
+pub committed-changes : (state : State) (txn : TxnId) (wrote : List Touch) → IsCommitting state txn wrote → KeepsNames state (entry.Commit txn wrote)
+    → ChangesAt state (after state (entry.Commit txn wrote)) (λ place. IsOwn state.tables txn.0 place)
+unfolding acted
+committed-changes state txn wrote to names =
+    grown-changes state (after state (entry.Commit txn wrote)) (λ place. IsOwn state.tables txn.0 place)
+    (commit-grows state txn wrote (after state (entry.Commit txn wrote)) _ refl refl names.before names.behind to.unended to.tables to.none to.above)

@@ -1,6 +1,6 @@
 -- The entry that ends a transaction: what it put is made from then on, or may not stand any more; other transactions' files may stand on.
 -- Here those that drop a table and that create one, which make no file.
-use Rattle.std.proofs.Common.{refl, ◌≡◌, ◌⊎◌, inl, inr, ℕ, zero, suc, ◌+◌, ◌==◌, Bool, true, false, is_some, IsSome, Option, Some, None, List, [], ◌∷◌, ◌++◌, map, sym, ap, ◌∙◌, subst, arith, eqb-true, eq-eqb, true≢false}
+use Rattle.std.proofs.Common.{refl, ◌≡◌, ◌⊎◌, inl, inr, ℕ, zero, suc, ◌+◌, ◌==◌, Bool, true, false, is_some, Option, Some, None, List, [], ◌∷◌, ◌++◌, map, sym, ap, ◌∙◌, subst, arith, eqb-true, eq-eqb, true≢false}
 use Rattle.std.specs.Prelude.{is_none}
 use Rattle.std.specs.FinMap as finmap
 use Rattle.std.specs.List.{slice_get, AllByRecursion}
@@ -8,7 +8,6 @@ use Rattle.hv_base.specs.declared.ids.TableId.{TableId}
 use Rattle.hv_base.specs.declared.ids.TxnId.{TxnId}
 use Rattle.hv_shelf.specs.declared.place.Place.{Place}
 use Rattle.hv_shelf.specs.Disk.{Tree}
-use Rattle.hv_history.specs.declared.entry.Entry.{Entry}
 use Rattle.hv_history.specs.declared.entry.Entry.TheVariants as entry
 use Rattle.hv_history.specs.declared.state.Ending.{Ending}
 use Rattle.hv_history.specs.declared.state.Table.{Table}
@@ -18,14 +17,14 @@ use Rattle.hv_history.specs.Legal.{is_open}
 use Rattle.hv_stands.specs.Files.{AreEncoded, IsLoose, IsOwn, IsUndone, ending_of}
 use Rattle.hv_stands.proofs.Numbers.{either, numbered-more}
 use Rattle.hv_history.specs.Jobs.{is_past_by, is_past}
-use Rattle.hv_law_made.specs.Made.{made_recs, is_gone}
+use Rattle.hv_law_made.specs.Made.{made_recs}
 use Rattle.hv_law_made.specs.Named.{AllHaveNames}
 use Rattle.hv_law_made.specs.Standing.{is_live_table, is_live_at, Standing}
-use Rattle.hv_law_made.specs.Laws.{Holds, IsFiledFor, ChangesAt, IsAsked, DroppedStands, CreatedStands}
+use Rattle.hv_law_made.specs.Laws.{Holds, ChangesAt, IsUnended, DroppedStands, CreatedStands}
 use Rattle.hv_law_made.proofs.UnmadeLemmas.{puts-unmade}
 use Rattle.hv_law_made.proofs.FrameLemmas.{changed-stands}
 use Rattle.hv_law_made.proofs.CalmLemmas.{IsCalm, gone-calm, calm-changes}
-use Rattle.hv_law_made.proofs.TableStands.{itself, calm-changed, turned, live-by}
+use Rattle.hv_law_made.proofs.TableStands.{calm-changed, turned}
 use Rattle.hv_law_made.proofs.PastLemmas.{open_at, past-stays, fewer}
 
 -- ---- the transactions
@@ -78,7 +77,7 @@ module _ (state now : State) (txn : ℕ) (g : Transaction → Transaction) (tran
 -- ---- and no table's writes change
 
 -- the transaction is open, and the files are as the entry asks
-module _ (state now : State) (txn : ℕ) (g : Transaction → Transaction) (files : Tree) (named : AllHaveNames state)
+module _ (state now : State) (txn : ℕ) (g : Transaction → Transaction) (named : AllHaveNames state)
     (unended : numbered (map ending_of state.transactions) txn ≡ Some None) (transactions_are : now.transactions ≡ changed (while_open g) state.transactions txn)
     (jobs_are : now.jobs ≡ state.jobs) (calm : (k : ℕ) → IsCalm (numbered state.tables k) (numbered now.tables k))
     (owns : (by : ℕ) (place : Place) → IsOwn state.tables by place → IsOwn now.tables by place)
@@ -87,15 +86,15 @@ module _ (state now : State) (txn : ℕ) (g : Transaction → Transaction) (file
   abbrev Own : Place → Type 0
   Own place = IsOwn state.tables txn place
 
-  end-changes : ChangesAt state now Own
+  pub end-changes : ChangesAt state now Own
   end-changes = calm-changes state now jobs_are named calm (end-past state now txn g transactions_are) Own (end-loose state now txn g transactions_are owns) dead live
 
   was-loose : (place : Place) → Own place → IsLoose state place
   was-loose place own = record { txn = txn; own = own; undone = subst IsUndone (sym unended) tt }
 
-  pub end-stands : ((place : Place) → Own place → Holds (made_recs now place) place.bucket (finmap.get files place)) → AllByRecursion AreEncoded now.tables
-      → Standing state files → Standing now files
-  end-stands filed encoded standing =
+  pub end-stands : (files : Tree) → ((place : Place) → Own place → Holds (made_recs now place) place.bucket (finmap.get files place))
+      → AllByRecursion AreEncoded now.tables → Standing state files → Standing now files
+  end-stands files filed encoded standing =
       changed-stands state now Own files files end-changes (λ place. inl refl) (record {
         whole = λ place at live needed. filed place at;
         bare = λ place at none. subst (λ o. Holds o place.bucket (finmap.get files place)) none (filed place at);
@@ -152,11 +151,21 @@ dead-by false c h e = refl
 pub dropped-stands : DroppedStands
 unfolding acted
 dropped-stands state txn table files unended named filed standing =
-    end-stands state (after state (entry.Drop txn table)) txn.0 _ files named unended refl refl
+    end-stands state (after state (entry.Drop txn table)) txn.0 _ named unended refl refl
     (λ k. calm-changed dropped (λ t. refl) (λ t. refl) state.tables table.0 k)
     (λ by place own. drop-own state.tables table.0 by place own)
     (λ place e. dead-by (is_live_at (after state (entry.Drop txn table)) place) (is_live_at state place) (drop-live state.tables table.0 place.table.0) e)
-    (λ place e. drop-live state.tables table.0 place.table.0 e) filed.at filed.encoded standing
+    (λ place e. drop-live state.tables table.0 place.table.0 e) files filed.at filed.encoded standing
+
+pub dropped-changes : (state : State) (txn : TxnId) (table : TableId) → IsUnended state txn → AllHaveNames state
+    → ChangesAt state (after state (entry.Drop txn table)) (λ place. IsOwn state.tables txn.0 place)
+unfolding acted
+dropped-changes state txn table unended named =
+    end-changes state (after state (entry.Drop txn table)) txn.0 _ named unended refl refl
+    (λ k. calm-changed dropped (λ t. refl) (λ t. refl) state.tables table.0 k)
+    (λ by place own. drop-own state.tables table.0 by place own)
+    (λ place e. dead-by (is_live_at (after state (entry.Drop txn table)) place) (is_live_at state place) (drop-live state.tables table.0 place.table.0) e)
+    (λ place e. drop-live state.tables table.0 place.table.0 e)
 
 -- ---- a table that is created
 
@@ -198,7 +207,17 @@ pub created-stands : CreatedStands
 unfolding acted
 created-stands state txn table files unended named filed standing =
     let new = made_by table.0 (numbered state.transactions txn.0) in
-    end-stands state (after state (entry.Create txn table)) txn.0 _ files named unended refl refl
+    end-stands state (after state (entry.Create txn table)) txn.0 _ named unended refl refl
     (λ k. more-calm new refl refl state.tables k) (λ by place own. create-own state.tables new by place own)
     (λ place e. live-more new refl refl state.tables place.table.0 ∙ e)
-    (λ place e. sym (live-more new refl refl state.tables place.table.0) ∙ e) filed.at filed.encoded standing
+    (λ place e. sym (live-more new refl refl state.tables place.table.0) ∙ e) files filed.at filed.encoded standing
+
+pub created-changes : (state : State) (txn : TxnId) (table : TableId) → IsUnended state txn → AllHaveNames state
+    → ChangesAt state (after state (entry.Create txn table)) (λ place. IsOwn state.tables txn.0 place)
+unfolding acted
+created-changes state txn table unended named =
+    let new = made_by table.0 (numbered state.transactions txn.0) in
+    end-changes state (after state (entry.Create txn table)) txn.0 _ named unended refl refl
+    (λ k. more-calm new refl refl state.tables k) (λ by place own. create-own state.tables new by place own)
+    (λ place e. live-more new refl refl state.tables place.table.0 ∙ e)
+    (λ place e. sym (live-more new refl refl state.tables place.table.0) ∙ e)

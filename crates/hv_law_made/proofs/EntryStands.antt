@@ -19,9 +19,9 @@ use Rattle.hv_history.specs.declared.state.Table.{Table}
 use Rattle.hv_history.specs.declared.state.Transaction.{Transaction}
 use Rattle.hv_history.specs.declared.state.Written.{Written}
 use Rattle.hv_history.specs.State.{State, Job, numbered, changed, changed_at, commits, tables_behind, written_to, acted, after}
-use Rattle.hv_history.specs.Legal.{Of, CommitFits, CreateFits, DropFits}
+use Rattle.hv_history.specs.Legal.{Of, CommitFits, CreateFits, DropFits, Fits}
 use Rattle.hv_history.specs.Jobs.{is_open_one, is_job_of, is_past, ended_front, ids_of, watermark}
-use Rattle.hv_history.specs.JobsFit.{OfJob, PickedFits, PublishedFits, EmptyFits, FailedFits, CleanedFits, ForgotFits, JobFits}
+use Rattle.hv_history.specs.JobsFit.{OfJob, PickedFits, PublishedFits, EmptyFits, FailedFits, CleanedFits, ForgotFits}
 use Rattle.hv_stands.specs.Files.{IsLoose, IsOwn, IsUndone, ending_of}
 use Rattle.hv_stands.specs.Sound.{info_in, given_of, owners_of, given_among, owner_among, IsSingle}
 use Rattle.hv_stands.proofs.Numbers.{found, one_value, same_one, either, numbered-changed, changed-here, numbered-map}
@@ -91,7 +91,7 @@ gone-turns state place (Some bytes) e may = cc
 
 -- ---- a transaction that is open
 
-unended-as : (state : State) (txn : TxnId) (t : Transaction) → numbered state.transactions txn.0 ≡ Some t → t.ending ≡ None → IsUnended state txn
+pub unended-as : (state : State) (txn : TxnId) (t : Transaction) → numbered state.transactions txn.0 ≡ Some t → t.ending ≡ None → IsUnended state txn
 unended-as state txn t at none = numbered-map ending_of state.transactions txn.0 ∙ ap (option_map ending_of) at ∙ ap (λ o. Some o) none
 
 -- a number of an open transaction is above all ids up to the watermark
@@ -147,7 +147,7 @@ module _ (state : State) (txn : TxnId) (sound : IsSoundBook state) (unended : Is
       let same : of.0 ≡ txn.0 = same_one (numbered owners write) of.0 txn.0 of.1 owner in
       subst IsAbortedEnd unended (subst (λ n. IsAbortedEnd (numbered (map ending_of state.transactions) n)) same of.2)
 
-  kept-id : (number : ℕ) (table : Table) (write : ℕ) → numbered state.tables number ≡ Some table → numbered table.owners write ≡ Some txn.0
+  pub kept-id : (number : ℕ) (table : Table) (write : ℕ) → numbered state.tables number ≡ Some table → numbered table.owners write ≡ Some txn.0
       → list_any (λ other. other == write) table.forgotten ≡ false
   kept-id number table write at owner =
       false_from_ne_true (list_any (λ other. other == write) table.forgotten)
@@ -257,7 +257,7 @@ commit-tables : (state : State) (txn : TxnId) (wrote : List Touch) (t : Transact
 unfolding acted
 commit-tables state txn wrote t at = ap (λ (o : Option Transaction). tables_behind (commits o) state.tables) at
 
-is-committing : (state : State) (txn : TxnId) (wrote : List Touch) → IsSoundBook state → Of state txn.0 (CommitFits state wrote) → IsCommitting state txn wrote
+pub is-committing : (state : State) (txn : TxnId) (wrote : List Touch) → IsSoundBook state → Of state txn.0 (CommitFits state wrote) → IsCommitting state txn wrote
 is-committing state txn wrote sound fits =
     let here = found (CommitFits state wrote) (numbered state.transactions txn.0) fits in
     let t : Transaction = here.0 in
@@ -283,7 +283,7 @@ undone-end (Some (Some (Aborted place cause))) is = tt
 undone-end (Some (Some (Made place table))) is = absurd is
 undone-end (Some (Some (Dropped place table))) is = absurd is
 
-is-to-forget : (limits : Limits) (state : State) (number write : ℕ) (table : Table) → numbered state.tables number ≡ Some table → ForgotFits limits state write table
+pub is-to-forget : (limits : Limits) (state : State) (number write : ℕ) (table : Table) → numbered state.tables number ≡ Some table → ForgotFits limits state write table
     → IsToForget state number write table
 is-to-forget limits state number write table at fits =
     let of = aborted-id state.transactions (numbered table.owners write) fits.aborted in
@@ -331,18 +331,18 @@ marked-by : (state : State) (job : Job) (o : Option (ℕ × ℕ × ℕ)) → Has
 marked-by state job None range = tt
 marked-by state job (Some r) range = range.opened.1
 
-all-marked : (state : State) → IsSoundBook state → (job : Job) → IsIn job state.jobs → IsMarked (length state.transactions + 1) job.published
+pub all-marked : (state : State) → IsSoundBook state → (job : Job) → IsIn job state.jobs → IsMarked (length state.transactions + 1) job.published
 all-marked state sound job among =
     let at = numbered-at state.jobs job among in
     marked-by state job job.published (numbered-all (IsSoundJob state) state.jobs at.0 job sound.jobs.each at.1).range
 
 -- ---- each entry
 
-module _ (limits : Limits) (state : State) (event : Entry) (fits : JobFits limits state event) (few : state.entries + 1 < write_end) (sound : IsSoundBook state) where
-  named : AllHaveNames state
+module _ (limits : Limits) (state : State) (event : Entry) (fits : Fits limits state event) (few : state.entries + 1 < write_end) (sound : IsSoundBook state) where
+  pub named : AllHaveNames state
   named = all-named state (omega (arith, few)) sound
 
-  names : KeepsNames state event
+  pub names : KeepsNames state event
   names = record { before = named; behind = all-named (after state event) few (books-go-on limits state event fits sound) }
 
   stepped : (number : ℕ) (files : Tree) (P : Job → Type 0) → OfJob state number P → stepped_job event ≡ Some number

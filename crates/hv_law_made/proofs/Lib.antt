@@ -18,6 +18,14 @@ pub mod NewNames
 pub mod NameBounds
 pub mod BookLemmas
 pub mod EntryStands
+pub mod EntryChanges
 pub mod RenameStands
 pub mod RecoverStands
 pub mod OpeningStands
+pub mod BareJobs
+pub mod OtherJobs
+pub mod GoingStands
+pub mod ListedJobs
+pub mod OpeningEnds
+pub mod OpeningStops
+pub mod QuietOpenings

@@ -1,8 +1,8 @@
 -- A publication keeps all standing: what was made is made, and its own directories are new, so that they hold just what they have to.
-use Rattle.std.proofs.Common.{refl, ◌≡◌, ◌⊎◌, inl, inr, ℕ, zero, suc, ◌==◌, ◌&&◌, nat_eq, Bool, true, false, is_some, IsSome, Option, Some, None, List, [], ◌∷◌, ◌++◌, sym, ap, ◌∙◌, subst, eqb-true, true≢false}
+use Rattle.std.proofs.Common.{refl, ◌≡◌, ◌⊎◌, inl, inr, ℕ, zero, suc, ◌==◌, ◌&&◌, nat_eq, Bool, true, false, is_some, IsSome, Option, Some, None, List, [], ◌∷◌, sym, ap, ◌∙◌, subst, eqb-true, true≢false}
 use Rattle.std.specs.Cmp.Lexicographic.{pointwise}
 use Rattle.std.specs.FinMap as finmap
-use Rattle.std.specs.List.{flat_map, list_any, AllByRecursion}
+use Rattle.std.specs.List.{flat_map, AllByRecursion}
 use Rattle.std.proofs.lemmas.Bool.{and_parts}
 use Rattle.hv_base.specs.declared.ids.JobId.{JobId}
 use Rattle.hv_base.specs.declared.ids.TxnId.{TxnId}
@@ -10,20 +10,19 @@ use Rattle.hv_base.specs.declared.ids.WriteId.{WriteId}
 use Rattle.hv_shelf.specs.declared.place.Place.{Place}
 use Rattle.hv_shelf.specs.Disk.{Tree}
 use Rattle.hv_dirs.specs.declared.names.DirName.{DirName}
-use Rattle.hv_dirs.specs.Names.{text_of}
 use Rattle.hv_dirs.proofs.NameLemmas as texts
 use Rattle.hv_history.specs.declared.entry.Entry.TheVariants as entry
 use Rattle.hv_history.specs.declared.state.Table.{Table}
-use Rattle.hv_history.specs.State.{State, Job, numbered, acted, after, changed, first_of}
+use Rattle.hv_history.specs.State.{State, Job, numbered, acted, after, changed, first_of, published_at}
 use Rattle.hv_stands.specs.Files.{AreEncoded}
 use Rattle.hv_stands.proofs.Numbers.{same_one, changed-here}
 use Rattle.hv_stands.proofs.Soundness.{all-numbered}
-use Rattle.hv_history.specs.Jobs.{is_job_of, jobs_of, is_past_by}
+use Rattle.hv_history.specs.Jobs.{is_job_of, is_past_by}
 use Rattle.hv_jobs.specs.Covers.{range_names, names_by, job_names, covers, frees, is_freed, cleans, is_cleaned_away}
 use Rattle.hv_law_made.specs.Made.{write_names, names_in, jobs_at, made_recs, is_gone}
 use Rattle.hv_law_made.specs.Named.{IsOfTable, HasNames, AllHaveNames}
 use Rattle.hv_law_made.specs.Standing.{Standing}
-use Rattle.hv_law_made.specs.Laws.{Holds, IsFinalOf, IsFiledFor, AreButFor, IsAsked, KeepsNames, IsNewFor, IsToPublish, PublishedStands}
+use Rattle.hv_law_made.specs.Laws.{Holds, IsFinalOf, AreButFor, ChangesAt, IsAsked, KeepsNames, IsToPublish, PublishedStands}
 use Rattle.hv_law_made.proofs.NamedLemmas.{same-text, gone-by}
 use Rattle.hv_law_made.proofs.UnmadeLemmas.{names-here}
 use Rattle.hv_law_made.proofs.FrameLemmas.{changed-stands}
@@ -194,7 +193,7 @@ module _ (state now : State) (f : Job → Job) (number low high mark : ℕ) (job
         (subst (λ n. is_job_of n place.partition cleaner.0 ≡ true) (sym one) cleaner.2) in
         true≢false (sym cleans_it.1 ∙ (to.new at.name mine).uncovered at_number.0 cleaner.0 at_number.1 there cleans_it.0)
 
-  publish-grows : Grows state now Final
+  pub publish-grows : Grows state now Final
   publish-grows =
       jobs-grow state now Final tables_same transactions_same before behind
       (staged-changed state now f number jobs_are here-same job to.is step.picks) (λ place table e. publish-at place table)
@@ -223,15 +222,27 @@ first-none : {A : Type 0} (o : Option A) (x : A) → o ≡ None → first_of o x
 first-none None x e = refl
 first-none (Some y) x e = cc
 
+is-publishing : (place low high mark : ℕ) (which : Job) → which.published ≡ None → IsPublishing (published_at place (low, high, mark)) which (low, high, mark)
+is-publishing place low high mark which unpublished = record {
+  table = λ j. refl;
+  partition = λ j. refl;
+  kind = λ j. refl;
+  cleaned = λ j. refl;
+  picks = λ j some. some;
+  done = first-none which.published (low, high, mark) unpublished;
+}
+
 pub published-stands : PublishedStands
 unfolding acted
 published-stands state job low high mark which before files to names but filed standing =
     publish-stands state (after state (entry.Published job low high mark)) _ job.0 low.0 high.0 mark.0 which to
-    (record {
-      table = λ j. refl;
-      partition = λ j. refl;
-      kind = λ j. refl;
-      cleaned = λ j. refl;
-      picks = λ j some. some;
-      done = first-none which.published (low.0, high.0, mark.0) to.unpublished;
-    }) refl refl refl names.before names.behind before files but filed.at standing
+    (is-publishing state.entries low.0 high.0 mark.0 which to.unpublished) refl refl refl names.before names.behind before files but filed.at standing
+
+pub published-changes : (state : State) (job : JobId) (low high : WriteId) (mark : TxnId) (which : Job) → IsToPublish state job.0 low.0 high.0 which
+    → KeepsNames state (entry.Published job low high mark)
+    → ChangesAt state (after state (entry.Published job low high mark)) (λ place. IsFinalOf state job.0 low.0 high.0 place)
+unfolding acted
+published-changes state job low high mark which to names =
+    grown-changes state (after state (entry.Published job low high mark)) (λ place. IsFinalOf state job.0 low.0 high.0 place)
+    (publish-grows state (after state (entry.Published job low high mark)) _ job.0 low.0 high.0 mark.0 which to
+    (is-publishing state.entries low.0 high.0 mark.0 which to.unpublished) refl refl refl names.before names.behind)

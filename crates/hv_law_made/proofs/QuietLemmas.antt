@@ -139,10 +139,10 @@ module _ (state now : State) (quiet : IsQuiet state now) where
       })))
   held-still place (inr (inr (inr dead))) = inr (inr (inr (live-same place ∙ dead)))
 
-  abbrev nowhere : Place → Type 0
+  abbrev pub nowhere : Place → Type 0
   nowhere place = ⊥
 
-  quiet-changes : ChangesAt state now nowhere
+  pub quiet-changes : ChangesAt state now nowhere
   quiet-changes = record {
     stays = λ place file e. recs-same place ∙ e;
     anew = λ place file e. inl (sym (recs-same place) ∙ e);

@@ -1,6 +1,6 @@
 -- What a front of a publication's renames leaves: but for final directories of jobs at work all stands, and each such job has all of its
 -- directories, or one of them is bare.
-use Rattle.std.proofs.Common.{refl, ◌≡◌, ◌⊎◌, inl, inr, ℕ, ◌+◌, ◌<◌, ◌==◌, Bool, true, false, Some, List, [], ◌∷◌, ◌++◌, sym, ap, ◌∙◌, subst, arith, eqb-true, eq-eqb, ltb-true, ltb-false, true≢false}
+use Rattle.std.proofs.Common.{refl, ◌≡◌, ◌⊎◌, inl, inr, ℕ, ◌+◌, ◌<◌, ◌==◌, true, false, Some, List, [], ◌∷◌, ◌++◌, sym, ap, ◌∙◌, subst, arith, eqb-true, eq-eqb, ltb-true, ltb-false, true≢false}
 use Rattle.std.specs.Prelude.{nat_lt}
 use Rattle.std.specs.FinMap as finmap
 use Rattle.std.specs.List.{AllByRecursion}
@@ -12,19 +12,20 @@ use Rattle.hv_shelf.specs.Places.{is_in}
 use Rattle.hv_dirs.specs.declared.names.DirName.{DirName}
 use Rattle.hv_dirs.specs.Names.{IsNumber, text_of, write_end}
 use Rattle.hv_history.specs.declared.state.Table.{Table}
-use Rattle.hv_history.specs.State.{State, Job, numbered, after}
+use Rattle.hv_history.specs.State.{State, Job, numbered}
 use Rattle.hv_history.specs.Legal.{is_working}
 use Rattle.hv_history.specs.Jobs.{is_initiated, is_job_of, pieces_for}
 use Rattle.hv_stands.proofs.Numbers.{same_one, either}
 use Rattle.hv_jobs.specs.Covers.{range_names}
 use Rattle.hv_law_jobs.proofs.OrderLemmas.{in-order, job-of-from, job-of-back}
-use Rattle.hv_law_made.specs.Made.{is_made, made_recs}
+use Rattle.hv_law_made.specs.Made.{is_made}
 use Rattle.hv_law_made.specs.Standing.{Standing}
-use Rattle.hv_law_made.specs.Laws.{Holds, IsFinalOf, IsFiledFor}
+use Rattle.hv_law_made.specs.Laws.{IsFiledFor}
 use Rattle.hv_law_made.specs.Entries.{IsSoundBook, publishing, finals, dir_of, staged_text, IsAtWork, AreStaged, AreRenamed, IsFinalAt, HasBareFinal, Recovers, FrontsRecover}
-use Rattle.hv_law_made.proofs.RenameStands.{in-parts, in-from, job-there, staged-final, final-same, Differ, IsMoved, not-in, renamed-all, is-number, free-here, final-made, finals-differ, bare_files, but-finals, none-made, bare-stands, all-filed}
+use Rattle.hv_law_made.proofs.RenameStands.{in-parts, staged-final, final-same, Differ, IsMoved, not-in, renamed-all, is-number, free-here, final-made, finals-differ, bare_files, but-finals, bare-stands, all-filed}
+use Rattle.hv_law_made.proofs.BareJobs.{bare-each}
 use Rattle.hv_law_visible.specs.Members.{IsIn}
-use Rattle.hv_law_visible.proofs.MemberLemmas.{in-left, in-right, in-filter, from-filter}
+use Rattle.hv_law_visible.proofs.MemberLemmas.{in-left, in-right, from-filter}
 use Rattle.hv_law_visible.proofs.TakenLemmas.{all-in}
 
 -- ---- fronts of names that differ
@@ -140,33 +141,8 @@ module _ (state : State) (number : ℕ) (job : Job) (work : IsAtWork state numbe
         moved.stays place (λ one at_one. apart (text_of name) (text_of one) place within) (λ one at_one. apart (text_of name) (staged_text number one) place within)
         ∙ free-here state n j w few sound before.tree standing name at place within
 
-    abbrev theirs : List DirName
-    theirs = range_names j.kind (pieces_for state j).low (pieces_for state j).high
-
-    unmade-by : (name : DirName) → IsIn name theirs → finals state j w.table.writes ≡ [] → (b : Bool) → is_made w.table.writes j.partition name ≡ b → b ≡ false
-    unmade-by name at none true made = absurd (subst (IsIn name) none (in-filter (is_made w.table.writes j.partition) name theirs at made))
-    unmade-by name at none false made = refl
-
-    filed-other : finals state j w.table.writes ≡ [] → (place : Place) → IsFinalOf state n (pieces_for state j).low (pieces_for state j).high place
-        → Holds (made_recs (after state (publishing state n j)) place) place.bucket (finmap.get now.tree place)
-    filed-other none place asks =
-        let same : asks.job ≡ j = same_one (numbered state.jobs n) asks.job j asks.is w.is in
-        let at : IsIn asks.name theirs =
-        subst (λ (x : Job). IsIn asks.name (range_names x.kind (pieces_for state j).low (pieces_for state j).high)) same asks.among in
-        let there = job-there j place (subst (λ (x : Job). is_job_of place.table.0 place.partition x ≡ true) same asks.here) in
-        let within = in-from j (text_of asks.name) place there.0 there.1 asks.dir in
-        let unmade = unmade-by asks.name at none (is_made w.table.writes j.partition asks.name) refl in
-        subst (λ o. Holds o place.bucket (finmap.get now.tree place)) (sym (none-made state n j w few sound asks.name at unmade place within))
-        (bare-other asks.name at place within)
-
-    other-by : (left : List DirName) → finals state j w.table.writes ≡ left → IsFiledFor (publishing state n j) state now.tree ⊎ HasBareFinal state j w.table.writes now.tree
-    other-by [] none = inl (record { at = λ place asks. filed-other none place asks; encoded = tt })
-    other-by (name ∷ left) some =
-        let at : IsIn name (finals state j w.table.writes) = subst (IsIn name) (sym some) (inl refl) in
-        inr (record { name = name; among = at; bare = bare-other name (from-filter (is_made w.table.writes j.partition) name theirs at).0 })
-
     other-each : IsFiledFor (publishing state n j) state now.tree ⊎ HasBareFinal state j w.table.writes now.tree
-    other-each = other-by (finals state j w.table.writes) refl
+    other-each = bare-each state few sound now.tree n j w bare-other
 
   each-by : (n : ℕ) (j : Job) (w : IsAtWork state n j) → ((number == n) ≡ true) ⊎ ((number == n) ≡ false)
       → IsFiledFor (publishing state n j) state now.tree ⊎ HasBareFinal state j w.table.writes now.tree

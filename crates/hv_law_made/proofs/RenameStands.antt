@@ -25,9 +25,9 @@ use Rattle.hv_history.specs.declared.entry.JobKind.TheVariants as kind
 use Rattle.hv_history.specs.declared.state.Table.{Table}
 use Rattle.hv_history.specs.declared.state.Written.{Written}
 use Rattle.hv_history.specs.State.{State, Job, numbered, acted, after}
-use Rattle.hv_history.specs.Legal.{profile}
+use Rattle.hv_history.specs.Legal.{profile, Fits}
 use Rattle.hv_history.specs.Jobs.{is_job_of, is_live_one, pieces_for}
-use Rattle.hv_history.specs.JobsFit.{PublishedFits, JobFits}
+use Rattle.hv_history.specs.JobsFit.{PublishedFits}
 use Rattle.hv_stands.specs.Files.{records_of}
 use Rattle.hv_stands.proofs.Numbers.{none_is, same_one, either}
 use Rattle.hv_stands.proofs.Soundness.{all-numbered}
@@ -141,7 +141,7 @@ plain-name (dir.Own deletes write statement) named compacted = absurd (true≢fa
 plain-name (dir.Wide deletes low high) named compacted = named
 plain-name (dir.Staged job name) named compacted = absurd (true≢false (sym compacted))
 
-staged-as : (number : ℕ) (name : DirName) → IsNumber number → IsMadeName name → IsStagedAs number (text_of name)
+pub staged-as : (number : ℕ) (name : DirName) → IsNumber number → IsMadeName name → IsStagedAs number (text_of name)
 staged-as number name is made = (is, (name, plain-name name made.named made.compacted, made.compacted, refl))
 
 abbrev staged_of : DirName → List ℕ
@@ -357,7 +357,7 @@ module _ (state : State) (number : ℕ) (job : Job) (work : IsAtWork state numbe
     mark_is = refl;
   }
 
-  pub fitting : JobFits profile state (publishing state number job)
+  pub fitting : Fits profile state (publishing state number job)
   fitting = subst (λ (o : Option Job). IsSomeAnd o (PublishedFits state low high mark)) (sym work.is) its-fits
 
   named : AllHaveNames state

@@ -1,17 +1,17 @@
 -- The steps of a job keep all standing, one by one.
-use Rattle.std.proofs.Common.{refl, ◌≡◌, ◌⊎◌, inl, inr, ℕ, ◌==◌, ◌&&◌, nat_eq, Bool, true, false, cond, is_some, IsSome, Option, Some, None, List, [], ◌∷◌, ◌++◌, sym, ap, ◌∙◌, subst, true≢false}
+use Rattle.std.proofs.Common.{refl, ◌≡◌, ◌⊎◌, inl, inr, ℕ, ◌&&◌, true, false, is_some, IsSome, Option, Some, None, List, [], ◌∷◌, ◌++◌, sym, ap, ◌∙◌, subst, true≢false}
 use Rattle.std.specs.List.{flat_map, list_any, AllByRecursion}
-use Rattle.std.specs.Cmp.Lexicographic.{pointwise}
-use Rattle.std.specs.FinMap as finmap
 use Rattle.std.proofs.lemmas.Bool.{and_from}
 use Rattle.hv_base.specs.declared.ids.JobId.{JobId}
+use Rattle.hv_base.specs.declared.ids.TableId.{TableId}
 use Rattle.hv_shelf.specs.declared.place.Place.{Place}
 use Rattle.hv_shelf.specs.Disk.{Tree}
 use Rattle.hv_dirs.specs.declared.names.DirName.{DirName}
 use Rattle.hv_history.specs.declared.entry.Entry.{Entry}
 use Rattle.hv_history.specs.declared.entry.Entry.TheVariants as entry
+use Rattle.hv_history.specs.declared.entry.JobKind.{JobKind}
 use Rattle.hv_history.specs.declared.state.Table.{Table}
-use Rattle.hv_history.specs.State.{State, Job, numbered, acted, after, changed, first_of}
+use Rattle.hv_history.specs.State.{State, Job, numbered, acted, after, first_of}
 use Rattle.hv_stands.specs.Files.{AreEncoded}
 use Rattle.hv_history.specs.Jobs.{is_job_of, jobs_of, is_past_by, is_past}
 use Rattle.hv_jobs.specs.Covers.{names_by, job_names, covers, frees, is_freed, cleans, is_cleaned_away}
@@ -23,7 +23,7 @@ use Rattle.hv_law_made.specs.Standing.{IsStagedAt, Standing}
 use Rattle.hv_law_made.specs.Laws.{IsCoveredBy, IsFiledFor, ChangesAt, IsAsked, stepped_job, KeepsNames, JobStepsStand, CleanedStands, AskedStands}
 use Rattle.hv_law_made.proofs.FrameLemmas.{changed-stands}
 use Rattle.hv_law_made.proofs.GrowLemmas.{is_name_of, spare-of-name, Grows, spared-by, grown-changes}
-use Rattle.hv_law_made.proofs.StepLemmas.{any-changed, any-more, flat-more, from-changed, numbered-in, IsSameJob, IsStep, frees-same, job-of-same, covers-same}
+use Rattle.hv_law_made.proofs.StepLemmas.{any-changed, any-more, flat-more, from-changed, numbered-in, IsStep, frees-same, job-of-same, covers-same}
 use Rattle.hv_law_made.proofs.StepGrows.{KeepsJobs, kept-grows, step-keeps}
 use Rattle.hv_law_visible.specs.Members.{IsIn}
 use Rattle.hv_law_visible.proofs.MemberLemmas.{in-filter, from-filter, any-in, in-any}
@@ -46,6 +46,11 @@ pub unasked-stands : (state now : State) (files : Tree) → ChangesAt state now 
 unasked-stands state now files changes encoded standing =
     changed-stands state now nowhere files files changes (λ place. inl refl) (nobody-asked now files encoded) standing
 
+-- an entry that asks of no place, and changes no table
+pub record IsUnasked (state : State) (event : Entry) : Type 0 where
+  pub changes : ChangesAt state (after state event) nowhere
+  pub tables : (after state event).tables ≡ state.tables
+
 -- ---- a step that cleans nothing
 
 module _ (state now : State) (f : Job → Job) (number : ℕ) (step : IsStep state now f number) (kept : (job : Job) → (f job).is_cleaned ≡ job.is_cleaned) where
@@ -65,53 +70,61 @@ first-some : (o : Option ℕ) (n : ℕ) → IsSome (first_of o n)
 first-some None n = refl
 first-some (Some m) n = refl
 
-module _ (state : State) (event : Entry) (f : Job → Job) (number : ℕ) (job : Job) (files : Tree)
+module _ (state : State) (event : Entry) (f : Job → Job) (number : ℕ) (job : Job)
     (step : IsStep state (after state event) f number) (kept : (j : Job) → (f j).is_cleaned ≡ j.is_cleaned)
     (picks : (j : Job) → IsSome j.watermark → IsSome (f j).watermark) (is : numbered state.jobs number ≡ Some job)
-    (names : KeepsNames state event) (standing : Standing state files) where
-  pub step-stands : Standing (after state event) files
-  step-stands =
-      unasked-stands state (after state event) files
-      (grown-changes state (after state event) nowhere
+    (names : KeepsNames state event) where
+  step-changes : ChangesAt state (after state event) nowhere
+  step-changes =
+      grown-changes state (after state event) nowhere
       (kept-grows state (after state event) (step-keeps state (after state event) f number step job is picks) nowhere names.before names.behind
-      (λ place table here name at made e. inl (sym (cleaned-same state (after state event) f number step kept place name) ∙ e))))
-      (subst (AllByRecursion AreEncoded) (sym step.tables) standing.encoded) standing
+      (λ place table here name at made e. inl (sym (cleaned-same state (after state event) f number step kept place name) ∙ e)))
+
+  -- it changes nothing, and no table
+  step-steps : IsUnasked state event
+  step-steps = record { changes = step-changes; tables = step.tables }
 
 number-is : (a b : ℕ) → Some a ≡ Some b → a ≡ b
 number-is a b e = cc
 
-pub job-steps-stand : JobStepsStand
+pub job-steps : (state : State) (event : Entry) (number : ℕ) (job : Job) → stepped_job event ≡ Some number → numbered state.jobs number ≡ Some job
+    → KeepsNames state event → IsUnasked state event
 unfolding acted
-job-steps-stand state (entry.Picked j mark) number job files e is names standing =
+job-steps state (entry.Picked j mark) number job e is names =
     let same : j.0 ≡ number = number-is j.0 number e in
-    step-stands state (entry.Picked j mark) _ j.0 job files
+    step-steps state (entry.Picked j mark) _ j.0 job
     (record { tables = refl; transactions = refl; jobs = refl; same = λ one. record { table = refl; partition = refl; kind = refl; published = refl } })
-    (λ one. refl) (λ one some. first-some one.watermark _) (ap (numbered state.jobs) same ∙ is) names standing
-job-steps-stand state (entry.Empty j) number job files e is names standing =
+    (λ one. refl) (λ one some. first-some one.watermark _) (ap (numbered state.jobs) same ∙ is) names
+job-steps state (entry.Empty j) number job e is names =
     let same : j.0 ≡ number = number-is j.0 number e in
-    step-stands state (entry.Empty j) _ j.0 job files
+    step-steps state (entry.Empty j) _ j.0 job
     (record { tables = refl; transactions = refl; jobs = refl; same = λ one. record { table = refl; partition = refl; kind = refl; published = refl } })
-    (λ one. refl) (λ one some. some) (ap (numbered state.jobs) same ∙ is) names standing
-job-steps-stand state (entry.Failed j cause) number job files e is names standing =
+    (λ one. refl) (λ one some. some) (ap (numbered state.jobs) same ∙ is) names
+job-steps state (entry.Failed j cause) number job e is names =
     let same : j.0 ≡ number = number-is j.0 number e in
-    step-stands state (entry.Failed j cause) _ j.0 job files
+    step-steps state (entry.Failed j cause) _ j.0 job
     (record { tables = refl; transactions = refl; jobs = refl; same = λ one. record { table = refl; partition = refl; kind = refl; published = refl } })
-    (λ one. refl) (λ one some. some) (ap (numbered state.jobs) same ∙ is) names standing
-job-steps-stand state (entry.Boot run) number job files e is names standing = cc
-job-steps-stand state (entry.Opened txn session n text) number job files e is names standing = cc
-job-steps-stand state (entry.Start txn statement) number job files e is names standing = cc
-job-steps-stand state (entry.Given txn table write) number job files e is names standing = cc
-job-steps-stand state (entry.Commit txn wrote) number job files e is names standing = cc
-job-steps-stand state (entry.Abort txn cause) number job files e is names standing = cc
-job-steps-stand state (entry.Create txn table) number job files e is names standing = cc
-job-steps-stand state (entry.Drop txn table) number job files e is names standing = cc
-job-steps-stand state (entry.Asked j table partition kind by) number job files e is names standing = cc
-job-steps-stand state (entry.Published j low high mark) number job files e is names standing = cc
-job-steps-stand state (entry.Cleaned j) number job files e is names standing = cc
-job-steps-stand state (entry.Forgot table write) number job files e is names standing = cc
-job-steps-stand state (entry.Next txn statement n text) number job files e is names standing = cc
-job-steps-stand state (entry.Did txn statement wrote) number job files e is names standing = cc
-job-steps-stand state (entry.Alter txn table) number job files e is names standing = cc
+    (λ one. refl) (λ one some. some) (ap (numbered state.jobs) same ∙ is) names
+job-steps state (entry.Boot run) number job e is names = cc
+job-steps state (entry.Opened txn session n text) number job e is names = cc
+job-steps state (entry.Start txn statement) number job e is names = cc
+job-steps state (entry.Given txn table write) number job e is names = cc
+job-steps state (entry.Commit txn wrote) number job e is names = cc
+job-steps state (entry.Abort txn cause) number job e is names = cc
+job-steps state (entry.Create txn table) number job e is names = cc
+job-steps state (entry.Drop txn table) number job e is names = cc
+job-steps state (entry.Asked j table partition kind by) number job e is names = cc
+job-steps state (entry.Published j low high mark) number job e is names = cc
+job-steps state (entry.Cleaned j) number job e is names = cc
+job-steps state (entry.Forgot table write) number job e is names = cc
+job-steps state (entry.Next txn statement n text) number job e is names = cc
+job-steps state (entry.Did txn statement wrote) number job e is names = cc
+job-steps state (entry.Alter txn table) number job e is names = cc
+
+pub job-steps-stand : JobStepsStand
+job-steps-stand state event number job files e is names standing =
+    let step = job-steps state event number job e is names in
+    unasked-stands state (after state event) files step.changes (subst (AllByRecursion AreEncoded) (sym step.tables) standing.encoded) standing
 
 -- ---- a job that is asked for
 
@@ -152,22 +165,29 @@ module _ (state now : State) (job : Job) (tables_same : now.tables ≡ state.tab
       ∙ any-more (is_job_of place.table.0 place.partition) (cleans name) (cleans name) (λ j. refl) state.jobs job
       (ap (λ b. b && covers job name) uncleaned)
 
-  pub more-stands : AllHaveNames state → AllHaveNames now → (files : Tree) → Standing state files → Standing now files
-  more-stands before behind files standing =
-      unasked-stands state now files
-      (grown-changes state now nowhere
-      (kept-grows state now more-keeps nowhere before behind (λ place table here name at made e. inl (sym (more-cleaned place name) ∙ e))))
-      (subst (AllByRecursion AreEncoded) (sym tables_same) standing.encoded) standing
+  pub more-changes : AllHaveNames state → AllHaveNames now → ChangesAt state now nowhere
+  more-changes before behind =
+      grown-changes state now nowhere
+      (kept-grows state now more-keeps nowhere before behind (λ place table here name at made e. inl (sym (more-cleaned place name) ∙ e)))
+
+pub asked-steps : (state : State) (job : JobId) (table : TableId) (partition : List ℕ) (kind : JobKind) (by : ℕ)
+    → KeepsNames state (entry.Asked job table partition kind by) → IsUnasked state (entry.Asked job table partition kind by)
+unfolding acted
+asked-steps state job table partition kind by names = record {
+  changes = more-changes state (after state (entry.Asked job table partition kind by)) _ refl refl refl refl refl names.before names.behind;
+  tables = refl;
+}
 
 pub asked-stands : AskedStands
-unfolding acted
 asked-stands state job table partition kind by files names standing =
-    more-stands state (after state (entry.Asked job table partition kind by)) _ refl refl refl refl refl names.before names.behind files standing
+    let step = asked-steps state job table partition kind by names in
+    unasked-stands state (after state (entry.Asked job table partition kind by)) files step.changes
+    (subst (AllByRecursion AreEncoded) (sym step.tables) standing.encoded) standing
 
 -- ---- a job of which all was removed that it covers
 
-module _ (state : State) (j : JobId) (which : Job) (files : Tree) (is : numbered state.jobs j.0 ≡ Some which) (past : is_past state which ≡ true)
-    (names : KeepsNames state (entry.Cleaned j)) (filed : IsFiledFor (entry.Cleaned j) state files) (standing : Standing state files) where
+module _ (state : State) (j : JobId) (which : Job) (is : numbered state.jobs j.0 ≡ Some which) (past : is_past state which ≡ true)
+    (names : KeepsNames state (entry.Cleaned j)) where
   abbrev behind : State
   behind = after state (entry.Cleaned j)
 
@@ -219,18 +239,22 @@ module _ (state : State) (j : JobId) (which : Job) (files : Tree) (is : numbered
       (in-filter (is_job_of place.table.0 place.partition) at.job state.jobs (numbered-in state.jobs j.0 at.job at.is) at.here)
       (and_from (is_past state at.job) (covers at.job at.name) (ap (is_past state) same ∙ past) at.covered))
 
-  clean-asked : IsAsked behind Covered files
-  clean-asked = record {
+  clean-asked : (files : Tree) → IsFiledFor (entry.Cleaned j) state files → AllByRecursion AreEncoded state.tables → IsAsked behind Covered files
+  clean-asked files filed encoded = record {
     whole = λ place at live needed.
         absurd (true≢false (sym (spared-by state behind Covered clean-grows place (numbered state.tables place.table.0) refl (covered-spare place at)) ∙ needed));
     bare = λ place at none. filed.at place at;
     gone = λ place at live e. filed.at place at;
     tables = λ place at. ap (λ tables. is_some (numbered tables place.table.0)) clean-step.tables ∙ ap is_some at.table_is;
-    encoded = subst (AllByRecursion AreEncoded) (sym clean-step.tables) standing.encoded;
+    encoded = subst (AllByRecursion AreEncoded) (sym clean-step.tables) encoded;
   }
 
-  pub clean-stands : Standing behind files
-  clean-stands = changed-stands state behind Covered files files (grown-changes state behind Covered clean-grows) (λ place. inl refl) clean-asked standing
+  pub clean-changes : ChangesAt state behind Covered
+  clean-changes = grown-changes state behind Covered clean-grows
+
+  pub clean-stands : (files : Tree) → IsFiledFor (entry.Cleaned j) state files → Standing state files → Standing behind files
+  clean-stands files filed standing =
+      changed-stands state behind Covered files files clean-changes (λ place. inl refl) (clean-asked files filed standing.encoded) standing
 
 pub cleaned-stands : CleanedStands
-cleaned-stands state job which files is past names filed standing = clean-stands state job which files is past names filed standing
+cleaned-stands state job which files is past names filed standing = clean-stands state job which is past names files filed standing

@@ -1,5 +1,5 @@
 -- A write id that is given, and one that is forgotten, keep all standing.
-use Rattle.std.proofs.Common.{refl, ◌≡◌, ◌⊎◌, inl, inr, ℕ, zero, suc, ◌+◌, ◌==◌, ◌||◌, Bool, true, false, cond, is_some, IsSome, Option, Some, None, List, [], ◌∷◌, ◌++◌, map, sym, ap, ◌∙◌, subst, eqb-true, true≢false}
+use Rattle.std.proofs.Common.{refl, ◌≡◌, ◌⊎◌, inl, inr, ℕ, zero, suc, ◌+◌, ◌==◌, ◌||◌, Bool, true, false, cond, is_some, Option, Some, None, List, [], ◌∷◌, ◌++◌, map, sym, ap, ◌∙◌, subst, eqb-true, true≢false}
 use Rattle.std.specs.Prelude.{is_none}
 use Rattle.std.specs.FinMap as finmap
 use Rattle.std.specs.List.{list_any, slice_get, AllByRecursion}
@@ -15,12 +15,12 @@ use Rattle.hv_history.specs.declared.state.Transaction.{Transaction}
 use Rattle.hv_history.specs.State.{State, Job, numbered, acted, after, changed, changed_at, given_id, owned, forgot, unless_ended, while_open}
 use Rattle.hv_history.specs.Legal.{is_open}
 use Rattle.hv_stands.specs.Files.{AreEncoded, IsLoose, IsOwn, IsUndone, ending_of, own_dir}
-use Rattle.hv_stands.proofs.Numbers.{either, same_one, numbered-more}
+use Rattle.hv_stands.proofs.Numbers.{either, numbered-more}
 use Rattle.hv_history.specs.Jobs.{first_open, if_below, is_past_by, is_past}
 use Rattle.hv_law_made.specs.Made.{made_recs}
 use Rattle.hv_law_made.specs.Named.{AllHaveNames}
 use Rattle.hv_law_made.specs.Standing.{is_live_table, is_live_at, Standing}
-use Rattle.hv_law_made.specs.Laws.{Holds, IsOwnOf, IsFiledFor, IsAsked, GivenStands, IsToForget, ForgottenStands}
+use Rattle.hv_law_made.specs.Laws.{Holds, IsOwnOf, ChangesAt, GivenStands, IsToForget, ForgottenStands}
 use Rattle.hv_law_made.proofs.UnmadeLemmas.{puts-unmade}
 use Rattle.hv_law_made.proofs.FrameLemmas.{changed-stands}
 use Rattle.hv_law_made.proofs.StepStands.{nowhere, unasked-stands}
@@ -119,7 +119,7 @@ module _ (f : Table → Table) (keeps : (t : Table) → (f t).is_live ≡ t.is_l
 
 -- ---- a write id
 
-module _ (state now : State) (txn table write : ℕ) (files : Tree) (named : AllHaveNames state) (standing : Standing state files)
+module _ (state now : State) (txn table write : ℕ) (named : AllHaveNames state)
     (tables_are : now.tables ≡ changed (owned txn) state.tables table)
     (transactions_are : now.transactions ≡ changed (while_open (given_id table write)) state.transactions txn)
     (jobs_are : now.jobs ≡ state.jobs) where
@@ -168,18 +168,26 @@ module _ (state now : State) (txn table write : ℕ) (files : Tree) (named : All
   given-live : (place : Place) → is_live_at now place ≡ is_live_at state place
   given-live place = ap (λ tables. is_live_table (numbered tables place.table.0)) tables_are ∙ live-by (owned txn) (λ t. refl) state.tables table place.table.0
 
-  pub give-stands : Standing now files
-  give-stands =
-      unasked-stands state now files
-      (calm-changes state now jobs_are named
+  pub give-changes : ChangesAt state now nowhere
+  give-changes =
+      calm-changes state now jobs_are named
       (λ k. subst (λ tables. IsCalm (numbered state.tables k) (numbered tables k)) (sym tables_are) (calm-changed (owned txn) (λ t. refl) (λ t. refl) state.tables table k))
-      given-past nowhere given-loose (λ place e. given-live place ∙ e) (λ place e. sym (given-live place) ∙ e))
+      given-past nowhere given-loose (λ place e. given-live place ∙ e) (λ place e. sym (given-live place) ∙ e)
+
+  pub give-stands : (files : Tree) → Standing state files → Standing now files
+  give-stands files standing =
+      unasked-stands state now files give-changes
       (subst (AllByRecursion AreEncoded) (sym tables_are) (all-turned (owned txn) AreEncoded (λ t e. e) state.tables table standing.encoded)) standing
 
 pub given-stands : GivenStands
 unfolding acted
 given-stands state txn table write files named standing =
-    give-stands state (after state (entry.Given txn table write)) txn.0 table.0 write.0 files named standing refl refl refl
+    give-stands state (after state (entry.Given txn table write)) txn.0 table.0 write.0 named refl refl refl files standing
+
+pub given-changes : (state : State) (txn : TxnId) (table : TableId) (write : WriteId) → AllHaveNames state
+    → ChangesAt state (after state (entry.Given txn table write)) nowhere
+unfolding acted
+given-changes state txn table write named = give-changes state (after state (entry.Given txn table write)) txn.0 table.0 write.0 named refl refl refl
 
 -- ---- an id that is forgotten
 
@@ -191,9 +199,9 @@ any-last : (p : ℕ → Bool) (xs : List ℕ) (y : ℕ) → list_any p xs ≡ fa
 any-last p [] y none e = λ i. e i || false
 any-last p (x ∷ xs) y none e = last-by (p x) (list_any p xs) (list_any p (xs ++ y ∷ [])) none (λ more. any-last p xs y more e)
 
-module _ (state now : State) (table write : ℕ) (which : Table) (files : Tree) (to : IsToForget state table write which) (named : AllHaveNames state)
+module _ (state now : State) (table write : ℕ) (which : Table) (to : IsToForget state table write which) (named : AllHaveNames state)
     (tables_are : now.tables ≡ changed (forgot write) state.tables table) (transactions_are : now.transactions ≡ state.transactions)
-    (jobs_are : now.jobs ≡ state.jobs) (standing : Standing state files) where
+    (jobs_are : now.jobs ≡ state.jobs) where
   abbrev Own : Place → Type 0
   Own place = IsOwnOf table write place
 
@@ -268,22 +276,28 @@ module _ (state now : State) (table write : ℕ) (which : Table) (files : Tree) 
     undone = to.undone;
   }
 
-  abbrev forget_changes : Rattle.hv_law_made.specs.Laws.ChangesAt state now Own
-  forget_changes =
+  pub forget-changes : ChangesAt state now Own
+  forget-changes =
       calm-changes state now jobs_are named forget-calm forget-past Own forget-loose (λ place e. forget-live place ∙ e) (λ place e. sym (forget-live place) ∙ e)
 
-  pub forget-stands : ((place : Place) → Own place → Holds (made_recs now place) place.bucket (finmap.get files place)) → Standing now files
-  forget-stands filed =
-      changed-stands state now Own files files forget_changes (λ place. inl refl) (record {
+  pub forget-stands : (files : Tree) → ((place : Place) → Own place → Holds (made_recs now place) place.bucket (finmap.get files place)) → Standing state files
+      → Standing now files
+  forget-stands files filed standing =
+      changed-stands state now Own files files forget-changes (λ place. inl refl) (record {
         whole = λ place at live needed. filed place at;
         bare = λ place at none. subst (λ o. Holds o place.bucket (finmap.get files place)) none (filed place at);
         gone = λ place at live e.
             absurd (true≢false (sym e ∙ gone-calm state now jobs_are named forget-calm forget-past place ∙ (puts-unmade state place named (inl (was-loose place at))).gone));
-        tables = λ place at. forget_changes.tables place (ap is_some (ap (numbered state.tables) at.table_is ∙ to.is));
+        tables = λ place at. forget-changes.tables place (ap is_some (ap (numbered state.tables) at.table_is ∙ to.is));
         encoded = subst (AllByRecursion AreEncoded) (sym tables_are) (all-turned (forgot write) AreEncoded (λ t e. e) state.tables table standing.encoded);
       }) standing
 
 pub forgotten-stands : ForgottenStands
 unfolding acted
 forgotten-stands state table write which files to named filed standing =
-    forget-stands state (after state (entry.Forgot table write)) table.0 write.0 which files to named refl refl refl standing filed.at
+    forget-stands state (after state (entry.Forgot table write)) table.0 write.0 which to named refl refl refl files filed.at standing
+
+pub forgotten-changes : (state : State) (table : TableId) (write : WriteId) (which : Table) → IsToForget state table.0 write.0 which → AllHaveNames state
+    → ChangesAt state (after state (entry.Forgot table write)) (λ place. IsOwnOf table.0 write.0 place)
+unfolding acted
+forgotten-changes state table write which to named = forget-changes state (after state (entry.Forgot table write)) table.0 write.0 which to named refl refl refl

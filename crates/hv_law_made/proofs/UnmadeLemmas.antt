@@ -67,7 +67,7 @@ own-name (dir.Staged job name) deletes write statement is few e =
 -- ---- which names are own ones, and which are staged
 
 -- an own name among those that are made is one of a write
-own-made : (write : ℕ) (k : JobKind) (o : Option (ℕ × ℕ × ℕ)) (name : DirName) → IsOwnName write name → IsIn name (names_by k o) → ⊥
+pub own-made : (write : ℕ) (k : JobKind) (o : Option (ℕ × ℕ × ℕ)) (name : DirName) → IsOwnName write name → IsIn name (names_by k o) → ⊥
 own-made write k None name own at = at
 own-made write kind.Minor (Some range) name own (inl e) = subst (IsOwnName write) (sym e) own
 own-made write kind.Minor (Some range) name own (inr (inl e)) = subst (IsOwnName write) (sym e) own
@@ -75,7 +75,7 @@ own-made write kind.Minor (Some range) name own (inr (inr at)) = at
 own-made write kind.Major (Some range) name own (inl e) = subst (IsOwnName write) (sym e) own
 own-made write kind.Major (Some range) name own (inr at) = at
 
-own-written : (write : ℕ) (w : Written) (name : DirName) → IsOwnName write name → IsIn name (write_names w) → w.write ≡ write
+pub own-written : (write : ℕ) (w : Written) (name : DirName) → IsOwnName write name → IsIn name (write_names w) → w.write ≡ write
 own-written write w name own (inl e) = subst (IsOwnName write) (sym e) own
 own-written write w name own (inr (inl e)) = subst (IsOwnName write) (sym e) own
 own-written write w name own (inr (inr at)) = absurd at

@@ -17,17 +17,16 @@ use Rattle.hv_history.specs.declared.state.Ending.TheVariants.{Aborted}
 use Rattle.hv_history.specs.declared.state.Table.{Table}
 use Rattle.hv_history.specs.declared.state.Written.{Written}
 use Rattle.hv_history.specs.State.{State, Job, numbered, after, nothing_yet, state_of}
-use Rattle.hv_history.specs.Legal.{is_working}
+use Rattle.hv_history.specs.Legal.{is_working, Fits, AllFit}
 use Rattle.hv_history.specs.Jobs.{pieces_for, is_empty_of}
-use Rattle.hv_history.specs.JobsFit.{JobFits, AllJobsFit}
 use Rattle.hv_stands.specs.Files.{ending_of}
-use Rattle.hv_stands.specs.Sound.{IsSoundBase}
+use Rattle.hv_stands.specs.Sound.{IsSound}
 use Rattle.hv_jobs.specs.Covers.{range_names}
 use Rattle.hv_law_jobs.specs.Sound.{AreSoundJobs}
 use Rattle.hv_law_made.specs.Made.{is_made, made_recs}
 use Rattle.hv_law_made.specs.Named.{AllHaveNames}
 use Rattle.hv_law_made.specs.Standing.{Standing}
-use Rattle.hv_law_made.specs.Laws.{AsksAt, Holds, AreButFor, IsFiledFor}
+use Rattle.hv_law_made.specs.Laws.{AsksAt, Holds, ChangesAt, AreButFor, IsFiledFor}
 use Rattle.hv_law_visible.specs.Members.{IsIn}
 
 -- ---- books
@@ -55,27 +54,34 @@ ForgetsAborted endings table = AllByRecursion (IsOfAborted endings table.owners)
 pub record IsSoundBook (state : State) : Type 0 where
   pub jobs : AreSoundJobs state
   pub few_jobs : length state.jobs ≤ state.entries
-  pub base : IsSoundBase state
+  pub base : IsSound state
   pub statements : AllByRecursion HasFewStatements state.tables
   pub forgotten : AllByRecursion (ForgetsAborted (map ending_of state.transactions)) state.tables
 
 abbrev pub BooksGoOn : Type 0
-BooksGoOn = (limits : Limits) (state : State) (event : Entry) → JobFits limits state event → IsSoundBook state → IsSoundBook (after state event)
+BooksGoOn = (limits : Limits) (state : State) (event : Entry) → Fits limits state event → IsSoundBook state → IsSoundBook (after state event)
 
 -- so it holds of every book whose entries fit
 abbrev pub BooksAreSound : Type 0
-BooksAreSound = (limits : Limits) (book : List Entry) → AllJobsFit limits nothing_yet book → IsSoundBook (state_of book)
+BooksAreSound = (limits : Limits) (book : List Entry) → AllFit limits nothing_yet book → IsSoundBook (state_of book)
 
 abbrev pub BooksHaveNames : Type 0
 BooksHaveNames = (state : State) → state.entries < write_end → IsSoundBook state → AllHaveNames state
 
 -- ---- one law for every entry
 
+-- What an entry changes at a place, whatever stands there: what was made stays, and what is made anew, may not hold anything any more, or is
+-- said to be removed, is of the places that it asks of.
+abbrev pub EntriesChange : Type 0
+EntriesChange =
+    (limits : Limits) (state : State) (event : Entry)
+    → Fits limits state event → state.entries + 1 < write_end → IsSoundBook state → ChangesAt state (after state event) (AsksAt event state)
+
 -- What an entry asks of may have come just before it: nothing is said of `before` there.
 abbrev pub StandingGoesOn : Type 0
 StandingGoesOn =
     (limits : Limits) (state : State) (event : Entry) (before files : Tree)
-    → JobFits limits state event → state.entries + 1 < write_end → IsSoundBook state
+    → Fits limits state event → state.entries + 1 < write_end → IsSoundBook state
     → AreButFor (AsksAt event state) before files → IsFiledFor event state files → Standing state before → Standing (after state event) files
 
 -- ---- publications: staged directories get their names, and then the book is told

@@ -1,5 +1,7 @@
-ghost use Rattle.hv_law_made.specs.Entries.{BooksGoOn, BooksAreSound, BooksHaveNames, StandingGoesOn, RenamesStand, FrontsRecover, RecoveredGoOn};
+ghost use Rattle.hv_law_made.specs.Entries.{BooksGoOn, BooksAreSound, BooksHaveNames, EntriesChange, StandingGoesOn, RenamesStand, FrontsRecover, RecoveredGoOn};
 ghost use Rattle.hv_law_made.specs.Laws.{ChangesStand, PutsAreUnmade, QuietStands, NewNamesAreFree, JobStepsStand, CleanedStands, AskedStands, PublishedStands, GivenStands, ForgottenStands, DroppedStands, CreatedStands, CommittedStands, OpenedStands, PublishedNamesAreNew, QuietEntriesStand};
+ghost use Rattle.hv_law_made.specs.Opening.{StandingRecovers, NoneWorksStands, ListedAreWhole, GoingRecovers, GivenUpGoOn, QuietRecovers, QuietKeepsWhole, OpeningStands};
+ghost use Rattle.hv_law_made.specs.Stopping.{OpeningFrontsRecover, OpeningStopsRecover};
 
 /// The book makes nothing where writes and jobs put.
 pub fn puts_are_unmade()
@@ -96,6 +98,11 @@ pub fn books_are_sound()
     ensures law { BooksAreSound }
 {}
 
+/// What an entry changes is at the places that it asks of.
+pub fn entries_change()
+    ensures law { EntriesChange }
+{}
+
 /// Each entry that fits keeps the files standing, where they are as it asks.
 pub fn standing_goes_on()
     ensures law { StandingGoesOn }
@@ -114,4 +121,54 @@ pub fn fronts_recover()
 /// An opening that finds all directories of a job tells the book, and goes on so for the others.
 pub fn recovered_go_on()
     ensures law { RecoveredGoOn }
+{}
+
+/// What stands can be opened.
+pub fn standing_recovers()
+    ensures law { StandingRecovers }
+{}
+
+/// Where no job is at work, what an opening finds stands.
+pub fn none_works_stands()
+    ensures law { NoneWorksStands }
+{}
+
+/// A job is whole where its directories are listed, and one of them is bare where they aren't.
+pub fn listed_are_whole()
+    ensures law { ListedAreWhole }
+{}
+
+/// While the directories of a job that is given up go, an opening finds what it may find.
+pub fn going_recovers()
+    ensures law { GoingRecovers }
+{}
+
+/// When they are gone, so it is behind the entry by which it has failed.
+pub fn given_up_go_on()
+    ensures law { GivenUpGoOn }
+{}
+
+/// And behind an opening, a start or an abort.
+pub fn quiet_recovers()
+    ensures law { QuietRecovers }
+{}
+
+/// These leave which jobs are whole.
+pub fn quiet_keeps_whole()
+    ensures law { QuietKeepsWhole }
+{}
+
+/// When an opening has ended all jobs that were at work, all stands.
+pub fn opening_stands()
+    ensures law { OpeningStands }
+{}
+
+/// When it has ended some of them, the next opening finds what it may find.
+pub fn opening_fronts_recover()
+    ensures law { OpeningFrontsRecover }
+{}
+
+/// And while the directories go of the one that comes next.
+pub fn opening_stops_recover()
+    ensures law { OpeningStopsRecover }
 {}

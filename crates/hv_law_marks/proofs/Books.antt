@@ -122,6 +122,13 @@ settled-after limits s (entry.Create txn table) fits sound each =
     all-open IsSettled (ended (Made s.entries table.0)) (λ t h. record { bare = h.bare; readable = h.readable }) s.transactions txn.0 each
 settled-after limits s (entry.Drop txn table) fits sound each =
     all-open IsSettled (ended (Dropped s.entries table.0)) (λ t h. record { bare = h.bare; readable = h.readable }) s.transactions txn.0 each
+settled-after limits s (entry.Asked job table partition kind by_) fits sound each = each
+settled-after limits s (entry.Picked job mark) fits sound each = each
+settled-after limits s (entry.Published job low high mark) fits sound each = each
+settled-after limits s (entry.Empty job) fits sound each = each
+settled-after limits s (entry.Cleaned job) fits sound each = each
+settled-after limits s (entry.Failed job why) fits sound each = each
+settled-after limits s (entry.Forgot table write) fits sound each = each
 settled-after limits s event fits sound each = absurd fits
 
 settled-all : (limits : Limits) (more : List Entry) (s : State) → AllFit limits s more → IsSound s → AllByRecursion IsSettled s.transactions
@@ -152,6 +159,7 @@ pub record IsJustGiven (s : State) (txn k w : ℕ) : Type 0 where
   pub none : transaction.given ≡ []
   pub table : Table
   pub here : numbered s.tables k ≡ Some table
+  pub live : IsTrue table.is_live
   pub next : w ≡ length table.owners + 1
 
 -- ---- one entry
@@ -201,6 +209,7 @@ module _ (limits : Limits) (s : State) (settled : AllByRecursion IsSettled s.tra
         none = only.0;
         table = there.0;
         here = ap (λ (id : ℕ × ℕ). numbered s.tables id.0) (sym only.1) ∙ there.1;
+        live = there.2.0;
         next = ap (λ (id : ℕ × ℕ). id.1) (sym only.1) ∙ there.2.1;
       }
 
@@ -233,4 +242,11 @@ module _ (limits : Limits) (s : State) (settled : AllByRecursion IsSettled s.tra
   was-changing (entry.Drop by_ table) fits h =
       let here = found (DropFits s table.0) (numbered s.transactions by_.0) fits in
       changed-before (ended (Dropped s.entries table.0)) by_.0 here.0 here.1 (λ same. ended-not (ended (Dropped s.entries table.0) here.0) (Dropped s.entries table.0) refl) h
+  was-changing (entry.Asked job table partition kind by_) fits h = inl h
+  was-changing (entry.Picked job mark) fits h = inl h
+  was-changing (entry.Published job low high mark) fits h = inl h
+  was-changing (entry.Empty job) fits h = inl h
+  was-changing (entry.Cleaned job) fits h = inl h
+  was-changing (entry.Failed job why) fits h = inl h
+  was-changing (entry.Forgot table write) fits h = inl h
   was-changing event fits h = absurd fits

@@ -17,14 +17,17 @@ use Rattle.hv_history.specs.declared.state.Transaction.{Transaction}
 use Rattle.hv_history.specs.State.{State, nothing_yet, numbered, after, state_of}
 use Rattle.hv_history.specs.Legal.{Fits, AllFit}
 use Rattle.hv_dirs.specs.Names.{write_end}
-use Rattle.hv_stands.specs.Files.{own_dir, Stands, place_of_file}
-use Rattle.hv_stands.specs.Sound.{KeepsAll, IsSound}
+use Rattle.hv_stands.specs.Files.{own_dir, place_of_file}
+use Rattle.hv_stands.specs.Sound.{IsSound}
 use Rattle.hv_stands.specs.Running.{IsOfId}
 use Rattle.hv_stands.proofs.Numbers.{found, same_one, either}
 use Rattle.hv_stands.proofs.Soundness.{all-mapped, all-numbered}
-use Rattle.hv_stands.proofs.StandingFiles.{kept-none, new-ids-bare, same-place, place-tied, other-place}
+use Rattle.hv_stands.proofs.Places.{same-place, place-tied, other-place}
 use Rattle.hv_stands.proofs.Behind.{entries-are}
-use Rattle.hv_stands.proofs.OwnFiles.{unowned}
+use Rattle.hv_stands.proofs.OwnFiles.{unowned-id}
+use Rattle.hv_law_made.specs.Standing.{Standing}
+use Rattle.hv_law_made.proofs.BookLemmas.{books-are-sound}
+use Rattle.hv_law_filed.proofs.NewIds.{new-ids-bare}
 use Rattle.hv_trail.specs.declared.trail.TrailItem.{TrailItem}
 use Rattle.hv_trail.specs.declared.trail.TrailItem.TheVariants.{Noted, Marked}
 use Rattle.hv_trail.specs.declared.trail.Mark.{Mark}
@@ -73,7 +76,7 @@ module _ (trail : List TrailItem) (item : TrailItem) (before now : Tree) (marks 
 -- ---- an entry
 
 module _ (limits : Limits) (trail : List TrailItem) (event : Entry) (files : Tree) (fit : AllFit limits nothing_yet (book_of trail))
-    (room : length (book_of trail) + 1 < write_end) (fits : Fits limits (state_at trail) event) (stands : Stands (state_at trail) files) (marks : MarksStand trail files) where
+    (room : length (book_of trail) + 1 < write_end) (fits : Fits limits (state_at trail) event) (stands : Standing (state_at trail) files) (marks : MarksStand trail files) where
   abbrev s : State
   s = state_at trail
 
@@ -90,22 +93,13 @@ module _ (limits : Limits) (trail : List TrailItem) (event : Entry) (files : Tre
   unmarked : (txn k w : ℕ) → IsJustGiven s txn k w → (place : Place) → HasWritten longer (by_txn txn) place → ⊥
   unmarked txn k w given place has =
       let of = marks.own txn place (was-written txn place has) in
-      unowned s txn given.transaction sound given.at given.none place (record {
-        table = of.table;
-        is = of.named;
-        deletes = of.own.deletes;
-        write = of.write;
-        statement = of.own.statement;
-        dir = of.own.dir;
-        owner = of.owner;
-        kept = kept-none of.table.forgotten of.write (all-numbered KeepsAll s.tables place.table.0 of.table of.named sound.tables.keeping);
-      })
+      unowned-id s txn given.transaction sound given.at given.none place.table.0 of.write of.table of.named of.owner
 
   -- and a new write id has no file
   unfiled : (txn k w : ℕ) → IsJustGiven s txn k w → (place : Place) → IsOfId k w place → tree.get files place ≡ None
   unfiled txn k w given place of =
-      new-ids-bare s files place given.table of.deletes of.statement sound (omega (arith, room, entries-are (book_of trail))) stands
-      (ap (numbered s.tables) of.table_is ∙ given.here) (of.dir ∙ ap (λ (x : ℕ). own_dir of.deletes x of.statement) given.next)
+      new-ids-bare s files place given.table of.deletes of.statement (books-are-sound limits (book_of trail) fit)
+      (omega (arith, room, entries-are (book_of trail))) stands (ap (numbered s.tables) of.table_is ∙ given.here) given.live (of.dir ∙ ap (λ (x : ℕ). own_dir of.deletes x of.statement) given.next)
 
   noted-each : (txn : ℕ) (info : TableInfo) (effect : Effect) (write : ℕ) → broken (by_txn txn) longer ≡ None
       → IsChanging s txn info effect write ⊎ IsJustGiven s txn info.table.0 write → (place : Place) → IsOfId info.table.0 write place

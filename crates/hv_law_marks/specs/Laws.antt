@@ -16,9 +16,9 @@ use Rattle.hv_history.specs.declared.state.Transaction.{Transaction}
 use Rattle.hv_history.specs.State.{State, state_of, nothing_yet, numbered}
 use Rattle.hv_history.specs.Legal.{Fits, AllFit}
 use Rattle.hv_dirs.specs.Names.{write_end}
-use Rattle.hv_stands.specs.Files.{Stands}
 use Rattle.hv_stands.specs.Laws.{HasFile}
 use Rattle.hv_stands.specs.Running.{Asking, meant, IsUnderWay, IsOfId, HasPut}
+use Rattle.hv_law_made.specs.Standing.{Standing}
 use Rattle.hv_trail.specs.declared.trail.Reader.{Reader}
 use Rattle.hv_trail.specs.declared.trail.Mark.TheVariants.{Wrote, Broke}
 use Rattle.hv_trail.specs.declared.trail.TrailItem.{TrailItem}
@@ -67,7 +67,7 @@ abbrev pub NotedMarksStand : Type 0
 NotedMarksStand =
     (limits : Limits) (trail : List TrailItem) (event : Entry) (files : Tree)
     → AllFit limits nothing_yet (book_of trail) → length (book_of trail) + 1 < write_end → Fits limits (state_at trail) event
-    → Stands (state_at trail) files → MarksStand trail files → MarksStand (trail ++ Noted event ∷ []) files
+    → Standing (state_at trail) files → MarksStand trail files → MarksStand (trail ++ Noted event ∷ []) files
 
 -- a file of the change of an open transaction, which is put
 abbrev pub PutMarksStand : Type 0

@@ -562,4 +562,11 @@ next-is book txn t (entry.Opened id session number text) at sound running good =
     let within = (numbered-within (state_of book).transactions txn t at).1 in
     absurd (omega (arith, same, next, within))
 next-is book txn t (entry.Boot run) at sound running good = let never_ : None ≡ Some txn = good.of_it in cc
+next-is book txn t (entry.Asked job table partition kind by_) at sound running good = let never_ : None ≡ Some txn = good.of_it in cc
+next-is book txn t (entry.Picked job mark) at sound running good = let never_ : None ≡ Some txn = good.of_it in cc
+next-is book txn t (entry.Published job low high mark) at sound running good = let never_ : None ≡ Some txn = good.of_it in cc
+next-is book txn t (entry.Empty job) at sound running good = let never_ : None ≡ Some txn = good.of_it in cc
+next-is book txn t (entry.Cleaned job) at sound running good = let never_ : None ≡ Some txn = good.of_it in cc
+next-is book txn t (entry.Failed job why) at sound running good = let never_ : None ≡ Some txn = good.of_it in cc
+next-is book txn t (entry.Forgot table write) at sound running good = let never_ : None ≡ Some txn = good.of_it in cc
 next-is book txn t event at sound running good = absurd good.fits

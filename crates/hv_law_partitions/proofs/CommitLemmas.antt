@@ -12,18 +12,16 @@ use Rattle.hv_history.specs.declared.state.Table.{Table}
 use Rattle.hv_history.specs.declared.state.Transaction.{Transaction}
 use Rattle.hv_history.specs.State.{State, numbered, after, nothing_yet, state_of, content_of, content_in}
 use Rattle.hv_history.specs.Legal.{AllFit}
-use Rattle.hv_history.specs.JobsFit.{AllJobsFit}
 use Rattle.hv_book.specs.Past.{owners_in, forgotten_in}
 use Rattle.hv_earlier.specs.Fates as earlier_fates
 use Rattle.hv_earlier.specs.declared.fates.Fate as earlier
 use Rattle.hv_earlier.specs.declared.fates.Fate.TheVariants as fate
 use Rattle.hv_earlier.specs.Lists as lists
 use Rattle.hv_stands.specs.Files.{ending_of}
-use Rattle.hv_stands.specs.Sound.{IsDone, IsOfCommitted, AreOfCommitted, IsSound, IsSoundBase}
+use Rattle.hv_stands.specs.Sound.{IsDone, IsOfCommitted, AreOfCommitted, IsSound}
 use Rattle.hv_stands.proofs.Numbers.{one_value, numbered-map, numbered-within}
 use Rattle.hv_stands.proofs.Soundness.{all-numbered}
 use Rattle.hv_stands.proofs.Keeping.{sound-all, nothing-sound}
-use Rattle.hv_stands.proofs.JobKeeping.{base-all, nothing-base, all-fit-so}
 use Rattle.hv_law_visible.specs.Members.{IsIn}
 use Rattle.hv_law_visible.specs.History as visible
 use Rattle.hv_law_visible.specs.History.{Write}
@@ -41,8 +39,8 @@ pub book-sound : (limits : Limits) (entries : List Entry) → AllFit limits noth
 book-sound limits entries fit = sound-all limits nothing_yet entries fit nothing-sound
 
 -- the same with jobs
-pub book-base : (limits : Limits) (entries : List Entry) → AllJobsFit limits nothing_yet entries → IsSoundBase (state_of entries)
-book-base limits entries fit = base-all limits nothing_yet entries fit nothing-base
+pub book-base : (limits : Limits) (entries : List Entry) → AllFit limits nothing_yet entries → IsSound (state_of entries)
+book-base limits entries fit = sound-all limits nothing_yet entries fit nothing-sound
 
 -- ---- of one id
 
@@ -84,7 +82,7 @@ pub record IsDoneWrite (fates : List Fate) (w : Write Found) : Type 0 where
   pub counted : 1 ≤ w.write
   pub fate_is : fate_of fates w.write ≡ Some Committed
 
-pub committed-in : (s : State) (table : ℕ) (partition : List ℕ) → IsSoundBase s → (w : Write Found) → IsIn w (writes_in s table partition)
+pub committed-in : (s : State) (table : ℕ) (partition : List ℕ) → IsSound s → (w : Write Found) → IsIn w (writes_in s table partition)
     → IsDoneWrite (fates_in s table) w
 committed-in s table partition sound = by (numbered s.tables table) refl
   where
@@ -106,7 +104,7 @@ committed-in s table partition sound = by (numbered s.tables table) refl
 
 pub writes-committed : WritesAreCommitted
 writes-committed limits entries table partition fit w at =
-    (committed-in (state_of entries) table partition (book-base limits entries (all-fit-so limits nothing_yet entries fit)) w at).fate_is
+    (committed-in (state_of entries) table partition (book-base limits entries fit) w at).fate_is
 
 -- ---- under the list
 
@@ -115,7 +113,7 @@ all-pass p [] h = refl
 all-pass p (x ∷ xs) h =
     ap (λ b. cond b (x ∷ filter p xs) (filter p xs)) (h x (inl refl)) ∙ ap (λ ys. x ∷ ys) (all-pass p xs (λ y at. h y (inr at)))
 
-pub all-shown : (s : State) (table : ℕ) (partition : List ℕ) → IsSoundBase s
+pub all-shown : (s : State) (table : ℕ) (partition : List ℕ) → IsSound s
     → writes_shown (sight_of (lists.list_in s table)) (writes_in s table partition) ≡ writes_in s table partition
 all-shown s table partition sound =
     all-pass (λ (w : Write Found). is_valid (lists.list_in s table) w.write) (writes_in s table partition)
@@ -136,7 +134,7 @@ front-fits limits (event ∷ entries) s (suc place) fit = (fit.0, front-fits lim
 pub list-shows : ListShowsContent
 list-shows limits entries place table partition found fit =
     let s : State = state_of (take place entries) in
-    let sound = book-base limits (take place entries) (all-fit-so limits nothing_yet (take place entries) (front-fits limits entries nothing_yet place fit)) in
+    let sound = book-base limits (take place entries) (front-fits limits entries nothing_yet place fit) in
     let shown = all-shown s table partition sound in
     let same = content-of-partition partition (written_in (numbered s.tables table)) found in
     let rows = content-written (numbered s.tables table) in (

@@ -18,9 +18,8 @@ use Rattle.hv_history.specs.declared.state.Table.{Table}
 use Rattle.hv_history.specs.declared.state.Written.{Written}
 use Rattle.hv_history.specs.State.{State, numbered, state_of}
 use Rattle.hv_stands.specs.Sound as stands
-use Rattle.hv_stands.specs.Sound.{IsRoutedWrite, HasSoundWrites, IsSound, IsSoundBase}
+use Rattle.hv_stands.specs.Sound.{IsRoutedWrite, HasSoundWrites, IsSound}
 use Rattle.hv_stands.proofs.Soundness.{all-numbered}
-use Rattle.hv_stands.proofs.Written.{base-of}
 use Rattle.hv_stands.proofs.Ordered.{rises-kept}
 use Rattle.hv_law_visible.specs.Members.{IsIn, HasNoTies}
 use Rattle.hv_law_visible.specs.History.{Write, write_of, inserts_of}
@@ -107,7 +106,7 @@ module _ (partition : List ℕ) where
         subst (λ (v : Write Found). IsIn found v.inserts → IsRowOf partition v found) m.2
         (row-of m.0 found (all-in (IsRoutedWrite shape) writes m.0 each m.1))
 
-pub base-ids : (s : State) (table : ℕ) (partition : List ℕ) → IsSoundBase s → HasSoundIds partition (writes_in s table partition)
+pub base-ids : (s : State) (table : ℕ) (partition : List ℕ) → IsSound s → HasSoundIds partition (writes_in s table partition)
 base-ids s table partition sound = by (numbered s.tables table) refl (λ w at. (committed-in s table partition sound w at).counted)
   where
     by : (o : Option Table) → numbered s.tables table ≡ o → ((w : Write Found) → IsIn w (writes_of partition (written_in o)) → 1 ≤ w.write)
@@ -123,7 +122,7 @@ base-ids s table partition sound = by (numbered s.tables table) refl (λ w at. (
         }
 
 pub sound-ids : (s : State) (table : ℕ) (partition : List ℕ) → IsSound s → HasSoundIds partition (writes_in s table partition)
-sound-ids s table partition sound = base-ids s table partition (base-of s sound)
+sound-ids s table partition sound = base-ids s table partition sound
 
 pub ids-sound : IdsAreSound
 ids-sound limits entries table partition fit = sound-ids (state_of entries) table partition (book-sound limits entries fit)

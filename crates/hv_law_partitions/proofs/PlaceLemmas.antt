@@ -8,11 +8,10 @@ use Rattle.hv_history.specs.declared.entry.Entry.TheVariants as entry
 use Rattle.hv_history.specs.declared.state.Ending.TheVariants.{Aborted, Made, Dropped}
 use Rattle.hv_history.specs.declared.state.Snapshot.{Snapshot}
 use Rattle.hv_history.specs.declared.state.Transaction.{Transaction}
-use Rattle.hv_history.specs.JobsFit.{JobFits, AllJobsFit}
 use Rattle.hv_history.specs.State.{State, numbered, nothing_yet, state_of, first_of, opened, started, given_id, committed, ended, acted, after}
+use Rattle.hv_history.specs.Legal.{Fits, AllFit}
 use Rattle.hv_stands.proofs.Behind.{one-behind, entries-are, one-longer}
 use Rattle.hv_stands.proofs.Keeping.{all-open}
-use Rattle.hv_stands.proofs.JobKeeping.{all-fit-so}
 use Rattle.hv_stands.proofs.Soundness.{all-mapped, all-more, all-numbered}
 use Rattle.hv_law_partitions.specs.Since.{IsTakenAt, SnapshotsAreOfPlaces}
 
@@ -53,13 +52,13 @@ taken-now book event None h = record {
       (sym (ap (λ n. take n (book ++ event ∷ [])) (entries-are book) ∙ take-front (length book) book (event ∷ []) (omega arith) ∙ take-all book));
 }
 
-taken-after : (limits : Limits) (book : List Entry) (event : Entry) → JobFits limits (state_of book) event → AllByRecursion (Taken book) (state_of book).transactions
+taken-after : (limits : Limits) (book : List Entry) (event : Entry) → Fits limits (state_of book) event → AllByRecursion (Taken book) (state_of book).transactions
     → AllByRecursion (Taken (book ++ event ∷ [])) (after (state_of book) event).transactions
 unfolding acted Taken TakenBy
 taken-after limits book event fits h =
     by event fits (all-mapped (Taken book) (Taken (book ++ event ∷ [])) (λ t k. taken-longer book event t.snapshot k) (state_of book).transactions h)
   where
-    by : (e : Entry) → JobFits limits (state_of book) e → AllByRecursion (Taken (book ++ event ∷ [])) (state_of book).transactions
+    by : (e : Entry) → Fits limits (state_of book) e → AllByRecursion (Taken (book ++ event ∷ [])) (state_of book).transactions
         → AllByRecursion (Taken (book ++ event ∷ [])) (after (state_of book) e).transactions
     by (entry.Boot run) fits k = k
     by (entry.Opened txn session number text) fits k =
@@ -85,12 +84,12 @@ taken-after limits book event fits h =
     by (entry.Forgot table write) fits k = k
     by other fits k = absurd fits
 
-taken-all : (limits : Limits) (book more : List Entry) → AllJobsFit limits (state_of book) more → AllByRecursion (Taken book) (state_of book).transactions
+taken-all : (limits : Limits) (book more : List Entry) → AllFit limits (state_of book) more → AllByRecursion (Taken book) (state_of book).transactions
     → AllByRecursion (Taken (book ++ more)) (state_of (book ++ more)).transactions
 taken-all limits book [] fit h = subst (λ b. AllByRecursion (Taken b) (state_of b).transactions) (sym (append-nil book)) h
 taken-all limits book (event ∷ more) fit h =
     let longer : List Entry = book ++ event ∷ [] in
-    let rest : AllJobsFit limits (state_of longer) more = subst (λ s. AllJobsFit limits s more) (sym (one-behind book event)) fit.1 in
+    let rest : AllFit limits (state_of longer) more = subst (λ s. AllFit limits s more) (sym (one-behind book event)) fit.1 in
     let all = taken-all limits longer more rest
     (subst (λ (s : State). AllByRecursion (Taken longer) s.transactions) (sym (one-behind book event)) (taken-after limits book event fit.0 h)) in
     subst (λ b. AllByRecursion (Taken b) (state_of b).transactions) (append_assoc book (event ∷ []) more) all
@@ -100,7 +99,7 @@ unfolding TakenBy
 taken-by book None snapshot e h = cc
 taken-by book (Some other) snapshot e h = subst (TakenBy book) e h
 
-pub snapshots-of-places-so : (limits : Limits) (entries : List Entry) (txn : ℕ) (t : Transaction) (snapshot : Snapshot) → AllJobsFit limits nothing_yet entries
+pub snapshots-of-places-so : (limits : Limits) (entries : List Entry) (txn : ℕ) (t : Transaction) (snapshot : Snapshot) → AllFit limits nothing_yet entries
     → numbered (state_of entries).transactions txn ≡ Some t → t.snapshot ≡ Some snapshot → IsTakenAt entries snapshot
 unfolding Taken
 snapshots-of-places-so limits entries txn t snapshot fit at taken =
@@ -108,4 +107,4 @@ snapshots-of-places-so limits entries txn t snapshot fit at taken =
 
 pub snapshots-of-places : SnapshotsAreOfPlaces
 snapshots-of-places limits entries txn t snapshot fit at taken =
-    snapshots-of-places-so limits entries txn t snapshot (all-fit-so limits nothing_yet entries fit) at taken
+    snapshots-of-places-so limits entries txn t snapshot fit at taken

@@ -13,8 +13,7 @@ use Rattle.hv_history.specs.declared.state.Table.{Table}
 use Rattle.hv_history.specs.declared.state.Transaction.{Transaction}
 use Rattle.hv_history.specs.declared.state.Written.{Written}
 use Rattle.hv_history.specs.Lasting.{IsFront, Later, TableLater, GoesOn}
-use Rattle.hv_history.specs.Legal.{CommitFits, AllFit}
-use Rattle.hv_history.specs.JobsFit.{JobFits, AllJobsFit}
+use Rattle.hv_history.specs.Legal.{CommitFits, AllFit, Fits}
 use Rattle.hv_history.specs.State.{State, numbered, changed, forgot, nothing_yet, state_of, meaning, written_by, written_to, commits, tables_behind, made_by, acted, after}
 use Rattle.hv_history.proofs.LastingLaws.{goes-on, goes-on-all}
 use Rattle.hv_book.specs.Past.{owners_in, forgotten_in}
@@ -22,11 +21,10 @@ use Rattle.hv_earlier.specs.Fates as earlier_fates
 use Rattle.hv_earlier.specs.declared.fates.Fate as earlier
 use Rattle.hv_earlier.specs.Lists as lists
 use Rattle.hv_stands.specs.Files.{ending_of}
-use Rattle.hv_stands.specs.Sound.{HasOther, AreApart, HasSoundWrites, info_in, given_of, owners_of, given_among, owner_among, IsSingle, IsSoundBase}
+use Rattle.hv_stands.specs.Sound.{HasOther, AreApart, HasSoundWrites, info_in, given_of, owners_of, given_among, owner_among, IsSingle, IsSound}
 use Rattle.hv_stands.proofs.Numbers.{same_one, none_is, found, numbered-map}
 use Rattle.hv_stands.proofs.Soundness.{all-numbered}
-use Rattle.hv_stands.proofs.Keeping.{still-open, owner-table}
-use Rattle.hv_stands.proofs.JobKeeping.{base-next, base-all, nothing-base, all-fit-so}
+use Rattle.hv_stands.proofs.Keeping.{still-open, owner-table, sound-after, sound-all, nothing-sound}
 use Rattle.hv_law_visible.specs.Members.{IsIn}
 use Rattle.hv_law_visible.specs.History as visible
 use Rattle.hv_law_visible.specs.History.{Write}
@@ -49,9 +47,9 @@ use Rattle.hv_law_partitions.proofs.StoodLemmas.{owner-front, WasWritten, kept-w
 Rest : Limits → State → List Entry → ℕ → Type 0
 Rest limits s entries place =
     (rest : List Entry) × (fold after s entries ≡ fold after (fold after s (take place entries)) rest)
-    × AllJobsFit limits s (take place entries) × AllJobsFit limits (fold after s (take place entries)) rest
+    × AllFit limits s (take place entries) × AllFit limits (fold after s (take place entries)) rest
 
-rest-of : (limits : Limits) (s : State) (entries : List Entry) (place : ℕ) → AllJobsFit limits s entries → Rest limits s entries place
+rest-of : (limits : Limits) (s : State) (entries : List Entry) (place : ℕ) → AllFit limits s entries → Rest limits s entries place
 unfolding Rest
 rest-of limits s entries zero fit = (entries, refl, tt, fit)
 rest-of limits s [] (suc place) fit = ([], refl, tt, tt)
@@ -135,7 +133,7 @@ owner-later s now table write txn on = by (numbered s.tables table) refl
         ap (λ o. numbered (owners_in o) write) m.1 ∙ owner-front t.owners m.0.owners write txn m.2.owners e
 
 -- and that is there
-owner-there : (s : State) (table write txn : ℕ) → IsSoundBase s → owner_in s table write ≡ Some txn → (t : Transaction) × (numbered s.transactions txn ≡ Some t)
+owner-there : (s : State) (table write txn : ℕ) → IsSound s → owner_in s table write ≡ Some txn → (t : Transaction) × (numbered s.transactions txn ≡ Some t)
 unfolding owner_in
 owner-there s table write txn sound e = by (numbered s.transactions txn) refl (sound.given.is_given txn table write (owned (numbered s.tables table) refl e))
   where
@@ -185,7 +183,7 @@ unowned : (s : State) (table write : ℕ) → fate_owned s table write None ≡ 
 unfolding fate_owned
 unowned s table write = refl
 
-fates-go : (s now : State) (table write : ℕ) → IsSoundBase s → GoesOn s now → GoesTo (fate_of (fates_in s table) write) (fate_of (fates_in now table) write)
+fates-go : (s now : State) (table write : ℕ) → IsSound s → GoesOn s now → GoesTo (fate_of (fates_in s table) write) (fate_of (fates_in now table) write)
 fates-go s now table write sound on =
     subst (λ f. GoesTo f (fate_of (fates_in now table) write)) (sym (fate-is s table write))
     (subst (GoesTo (fate_owned s table write (owner_in s table write))) (sym (fate-is now table write)) (by (owner_in s table write) refl))
@@ -229,7 +227,7 @@ record IsNew (s : State) (table : Table) (written : Written) : Type 0 where
 abbrev CameFrom : State → ℕ → Table → Written → Type 0
 CameFrom s number table written = WasWritten s.tables number written ⊎ IsNew s table written
 
-commit-came : (s : State) (event : Entry) → IsSoundBase s → (n : ℕ) (t : Transaction) → numbered s.transactions n ≡ Some t → t.ending ≡ None
+commit-came : (s : State) (event : Entry) → IsSound s → (n : ℕ) (t : Transaction) → numbered s.transactions n ≡ Some t → t.ending ≡ None
     → (after s event).tables ≡ tables_behind (commits (Some t)) s.tables
     → (number : ℕ) (next : Table) (written : Written) → numbered (after s event).tables number ≡ Some next → IsIn written next.writes → CameFrom s number next written
 commit-came s event sound n t at unended tables number next written now here =
@@ -261,7 +259,7 @@ commit-came s event sound n t at unended tables number next written now here =
               })
         ]
 
-came-from : (limits : Limits) (s : State) (event : Entry) → JobFits limits s event → IsSoundBase s
+came-from : (limits : Limits) (s : State) (event : Entry) → Fits limits s event → IsSound s
     → (number : ℕ) (next : Table) (written : Written) → numbered (after s event).tables number ≡ Some next → IsIn written next.writes → CameFrom s number next written
 unfolding acted
 came-from limits s (entry.Boot run) fits sound number next written now here = inl (next, now, here)
@@ -290,7 +288,7 @@ came-from limits s event fits sound number next written now here = absurd fits
 abbrev AllCame : State → State → Type 0
 AllCame s now = (number : ℕ) (table : Table) (written : Written) → numbered now.tables number ≡ Some table → IsIn written table.writes → CameFrom s number table written
 
-all-came-one : (limits : Limits) (first s : State) (event : Entry) → JobFits limits s event → IsSoundBase s
+all-came-one : (limits : Limits) (first s : State) (event : Entry) → Fits limits s event → IsSound s
     → ((n : ℕ) → IsOver (numbered (map ending_of first.transactions) n) → IsOver (numbered (map ending_of s.transactions) n))
     → AllCame first s → AllCame first (after s event)
 all-came-one limits first s event fits sound over h number next written now here =
@@ -305,12 +303,12 @@ all-came-one limits first s event fits sound over h number next written now here
       | inr new ↦ inr (record { txn = new.txn; owner = new.owner; not_over = λ o. new.not_over (over new.txn o) })
     ]
 
-all-came : (limits : Limits) (first s : State) (more : List Entry) → AllJobsFit limits s more → IsSoundBase s
+all-came : (limits : Limits) (first s : State) (more : List Entry) → AllFit limits s more → IsSound s
     → ((n : ℕ) → IsOver (numbered (map ending_of first.transactions) n) → IsOver (numbered (map ending_of s.transactions) n))
     → AllCame first s → AllCame first (fold after s more)
 all-came limits first s [] fit sound over h = h
 all-came limits first s (event ∷ more) fit sound over h =
-    all-came limits first (after s event) more fit.1 (base-next limits s event fit.0 sound)
+    all-came limits first (after s event) more fit.1 (sound-after limits s event fit.0 sound)
     (λ n o. over-later s (after s event) n (goes-on s event) (over n o))
     (all-came-one limits first s event fit.0 sound over h)
 
@@ -345,7 +343,7 @@ in-table : (o : Option Table) (written : Written) → IsIn written (written_in o
 in-table None written at = absurd at
 in-table (Some t) written at = (t, refl, at)
 
-module _ (s now : State) (sound : IsSoundBase s) (sound_now : IsSoundBase now) (on : GoesOn s now) (came : AllCame s now) (table : ℕ) where
+module _ (s now : State) (sound : IsSound s) (sound_now : IsSound now) (on : GoesOn s now) (came : AllCame s now) (table : ℕ) where
   writes-front : IsFront (written_in (numbered s.tables table)) (written_in (numbered now.tables table))
   writes-front = by (numbered s.tables table) refl
     where
@@ -403,7 +401,7 @@ module _ (s now : State) (sound : IsSoundBase s) (sound_now : IsSoundBase now) (
 
 -- ---- the laws
 
-pub places-since-so : (limits : Limits) (entries : List Entry) (place table : ℕ) (partition : List ℕ) → AllJobsFit limits nothing_yet entries
+pub places-since-so : (limits : Limits) (entries : List Entry) (place table : ℕ) (partition : List ℕ) → AllFit limits nothing_yet entries
     → (more : List (Write Found))
     × (writes_in (state_of entries) table partition ≡ writes_in (state_of (take place entries)) table partition ++ more)
     × IsSince (fates_in (state_of (take place entries)) table) (fates_in (state_of entries) table)
@@ -412,7 +410,7 @@ unfolding Rest
 places-since-so limits entries place table partition fit =
     let m = rest-of limits nothing_yet entries place fit in
     let s : State = state_of (take place entries) in
-    let sound : IsSoundBase s = base-all limits nothing_yet (take place entries) m.2 nothing-base in
+    let sound : IsSound s = sound-all limits nothing_yet (take place entries) m.2 nothing-sound in
     let end : state_of entries ≡ fold after s m.0 = m.1 in
     let on : GoesOn s (state_of entries) = subst (GoesOn s) (sym end) (goes-on-all m.0 s) in
     let came : AllCame s (state_of entries) = subst (AllCame s) (sym end)
@@ -424,9 +422,9 @@ places-since-so limits entries place table partition fit =
     )
 
 pub places-since : PlacesAreSince
-places-since limits entries place table partition fit = places-since-so limits entries place table partition (all-fit-so limits nothing_yet entries fit)
+places-since limits entries place table partition fit = places-since-so limits entries place table partition fit
 
-pub shown-then-so : (limits : Limits) (entries : List Entry) (place table : ℕ) (partition : List ℕ) → AllJobsFit limits nothing_yet entries
+pub shown-then-so : (limits : Limits) (entries : List Entry) (place table : ℕ) (partition : List ℕ) → AllFit limits nothing_yet entries
     → writes_shown (sight_of (lists.list_at entries place table)) (writes_in (state_of entries) table partition) ≡ writes_in (state_of (take place entries)) table partition
 shown-then-so limits entries place table partition fit =
     let s : State = state_of (take place entries) in
@@ -440,7 +438,7 @@ shown-then-so limits entries place table partition fit =
 
 pub shown-then : (limits : Limits) (entries : List Entry) (place table : ℕ) (partition : List ℕ) → AllFit limits nothing_yet entries
     → writes_shown (sight_of (lists.list_at entries place table)) (writes_in (state_of entries) table partition) ≡ writes_in (state_of (take place entries)) table partition
-shown-then limits entries place table partition fit = shown-then-so limits entries place table partition (all-fit-so limits nothing_yet entries fit)
+shown-then limits entries place table partition fit = shown-then-so limits entries place table partition fit
 
 pub list-shows-then : ListShowsThen
 list-shows-then limits entries place table partition row fit =

@@ -21,16 +21,15 @@ use Rattle.hv_history.specs.declared.state.Table.{Table}
 use Rattle.hv_history.specs.declared.state.Transaction.{Transaction}
 use Rattle.hv_history.specs.declared.state.Written.{Written}
 use Rattle.hv_history.specs.Lasting.{IsFront, TableLater}
-use Rattle.hv_history.specs.Legal.{StartFits, GivenFits}
-use Rattle.hv_history.specs.JobsFit.{JobFits}
+use Rattle.hv_history.specs.Legal.{StartFits, GivenFits, Fits}
 use Rattle.hv_history.specs.State.{State, numbered, changed_at, content_of, is_deleted, given_in, first_of, first_known, meaning, statement_meaning, meaning_in, means, meant_in, wrote_as, while_open, opened, started, given_id, committed, ended, acted, after}
 use Rattle.hv_history.proofs.LastingLaws.{goes-on}
 use Rattle.hv_stands.specs.Files.{ending_of}
-use Rattle.hv_stands.specs.Sound.{IsRoutedWrite, HasSoundWrites, IsOfCommitted, AreOfCommitted, IsSingle, info_in, IsSoundBase}
+use Rattle.hv_stands.specs.Sound.{IsRoutedWrite, HasSoundWrites, IsOfCommitted, AreOfCommitted, IsSingle, info_in, IsSound}
 use Rattle.hv_stands.proofs.Numbers.{same_one, none_is, found, numbered-within}
 use Rattle.hv_stands.proofs.Soundness.{all-mapped, all-more, all-numbered, all-changed}
 use Rattle.hv_stands.proofs.Keeping.{open-by, all-open}
-use Rattle.hv_stands.proofs.Written.{of-base}
+use Rattle.hv_stands.proofs.Written.{of-tables}
 use Rattle.hv_law_visible.proofs.SortingLemmas.{from-sorted}
 use Rattle.hv_law_visible.specs.Members.{IsIn}
 use Rattle.hv_law_visible.specs.History.{write_of}
@@ -96,7 +95,7 @@ knows-later tables next on (Some snapshot) given m h = record {
 
 -- ---- at its Start
 
-content-below : (s : State) (number : ℕ) (table : Table) → IsSoundBase s → numbered s.tables number ≡ Some table
+content-below : (s : State) (number : ℕ) (table : Table) → IsSound s → numbered s.tables number ≡ Some table
     → (row : Found) → IsIn row (content_of table.writes) → write_of row.id ≤ length table.owners
 unfolding content_of
 content-below s number table sound is row at =
@@ -111,7 +110,7 @@ content-below s number table sound is row at =
     let one = all-in (IsOfCommitted (map ending_of s.transactions) table.owners) table.writes k.0 all k.1 in
     subst (λ n. n ≤ length table.owners) (sym write_is) (numbered-within table.owners k.0.write one.0 one.1).1
 
-deletes-stood : (s : State) (text : List ℕ) (info : TableInfo) (effect : Effect) → IsSoundBase s → meaning_in s text ≡ Some (Change info effect)
+deletes-stood : (s : State) (text : List ℕ) (info : TableInfo) (effect : Effect) → IsSound s → meaning_in s text ≡ Some (Change info effect)
     → (before : Table) × (numbered s.tables info.table.0 ≡ Some before) × StoodIn before effect
 unfolding meaning_in
 deletes-stood s text info effect sound = by (tree_of text)
@@ -119,7 +118,7 @@ deletes-stood s text info effect sound = by (tree_of text)
     by : (o : Option Stmt) → means s o ≡ Some (Change info effect) → (before : Table) × (numbered s.tables info.table.0 ≡ Some before) × StoodIn before effect
     by None e = cc
     by (Some tree) e =
-        let there = of-base s tree info effect sound e in
+        let there = of-tables s tree info effect sound e in
         let table : Table = there.change.table in (
           table,
           there.change.here,
@@ -131,7 +130,7 @@ deletes-stood s text info effect sound = by (tree_of text)
 pub meaning-single : (t : Transaction) (statement : Statement) → t.statements ≡ statement ∷ [] → meaning t ≡ statement.meaning
 meaning-single t statement one = ap (λ ss. statement_meaning (slice_get ss 0)) one
 
-start-since : (s : State) (t : Transaction) → IsSoundBase s → IsSingle (map info_in s.tables) t → (t.given ≡ []) × (meaning t ≡ None)
+start-since : (s : State) (t : Transaction) → IsSound s → IsSingle (map info_in s.tables) t → (t.given ≡ []) × (meaning t ≡ None)
     → KnowsSince s.tables s.tables t.given (meaning (started s 0 t))
 start-since s t sound single none =
     let statement : Statement = single.statement in
@@ -149,7 +148,7 @@ none-some : {A : Type 0} (o : Option A) → IsFalse (is_some o) → o ≡ None
 none-some None h = refl
 none-some (Some x) h = cc
 
-start-knows : (s : State) (t : Transaction) → IsSoundBase s → IsSingle (map info_in s.tables) t → t.snapshot ≡ None → Knows s.tables t → Knows s.tables (started s 0 t)
+start-knows : (s : State) (t : Transaction) → IsSound s → IsSingle (map info_in s.tables) t → t.snapshot ≡ None → Knows s.tables t → Knows s.tables (started s 0 t)
 start-knows s t sound single none h =
     let snapshot : Snapshot = record { place = s.entries; tables = s.tables; opened = length s.transactions } in
     subst (λ o. KnowsBy s.tables (first_of o snapshot) t.given (meaning (started s 0 t))) (sym none)
@@ -181,7 +180,7 @@ meaning-wrote : (given : List (ℕ × ℕ)) (ss : List Statement) → statement_
 meaning-wrote given [] = refl
 meaning-wrote given (statement ∷ ss) = refl
 
-pub knows-after : (limits : Limits) (s : State) (event : Entry) → JobFits limits s event → IsSoundBase s → AllByRecursion (Knows s.tables) s.transactions
+pub knows-after : (limits : Limits) (s : State) (event : Entry) → Fits limits s event → IsSound s → AllByRecursion (Knows s.tables) s.transactions
     → AllByRecursion (Knows (after s event).tables) (after s event).transactions
 unfolding acted
 knows-after limits s (entry.Boot run) fits sound h = h

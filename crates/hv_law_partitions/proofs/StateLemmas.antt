@@ -12,11 +12,9 @@ use Rattle.hv_history.specs.declared.state.Snapshot.{Snapshot}
 use Rattle.hv_history.specs.declared.state.Transaction.{Transaction}
 use Rattle.hv_history.specs.declared.state.Written.{Written}
 use Rattle.hv_history.specs.State.{State, numbered, nothing_yet, state_of, content_of, content}
-use Rattle.hv_history.specs.Legal.{is_open}
-use Rattle.hv_history.specs.JobsFit.{AllJobsFit}
+use Rattle.hv_history.specs.Legal.{is_open, AllFit}
 use Rattle.hv_earlier.specs.Lists as lists
 use Rattle.hv_stands.proofs.Numbers.{one_value}
-use Rattle.hv_stands.proofs.JobKeeping.{all-fit-so}
 use Rattle.hv_law_visible.specs.Members.{IsIn, HasNoTies}
 use Rattle.hv_law_visible.specs.Stands.{HasDistinctRows, Stands}
 use Rattle.hv_law_visible.proofs.SortingLemmas.{distinct-left, distinct-right}
@@ -215,7 +213,7 @@ pub record AreKnown (entries : List Entry) (table : ℕ) (jobs : List Compaction
   pub majors : (last mark : ℕ) → IsIn (Major last mark) jobs → (1 ≤ last) × (last ≤ most)
 
 pub kept-with : (limits : Limits) (entries : List Entry) (table : ℕ) (partition : List ℕ) (tree : Tree Found) (jobs : List Compaction) (most : ℕ)
-    → AllJobsFit limits nothing_yet entries → AreKnown entries table jobs most
+    → AllFit limits nothing_yet entries → AreKnown entries table jobs most
     → Stands id_of (IsPast (open_from 1 (state_of entries).transactions)) (IsUndone (fates_in (state_of entries) table))
     (writes_in (state_of entries) table partition) jobs tree
     → IsKept id_of (record (partition_in entries table partition tree) { jobs = jobs })
@@ -291,7 +289,7 @@ shown-in-order table partition s state list kept listed shown =
     ∙ ap (rows_of partition) (content-written (numbered s.tables table))
 
 pub readers-in-order-so : (limits : Limits) (entries : List Entry) (table : ℕ) (partition : List ℕ) (state : Partition Found) (txn : ℕ) (t : Transaction) (snapshot : Snapshot)
-    → AllJobsFit limits nothing_yet entries → IsPartitionOf entries table partition state → IsKept id_of state
+    → AllFit limits nothing_yet entries → IsPartitionOf entries table partition state → IsKept id_of state
     → numbered (state_of entries).transactions txn ≡ Some t → IsTrue (is_open t) → t.snapshot ≡ Some snapshot
     → rising_by (by_id id_of) (visible_rows id_of (sight_of (lists.list_at entries snapshot.place table)) state.tree)
     ≡ rows_of partition (content (state_of (take snapshot.place entries)) table)
@@ -306,11 +304,11 @@ readers-in-order-so limits entries table partition state txn t snapshot fit is_o
 
 pub readers-in-order : ReadersSeeItInOrder
 readers-in-order limits entries table partition state txn t snapshot fit is_of kept at open_one taken =
-    readers-in-order-so limits entries table partition state txn t snapshot (all-fit-so limits nothing_yet entries fit) is_of kept at open_one taken
+    readers-in-order-so limits entries table partition state txn t snapshot fit is_of kept at open_one taken
 
 -- whoever comes next reads those of the end
 pub end-in-order : (limits : Limits) (entries : List Entry) (table : ℕ) (partition : List ℕ) (state : Partition Found)
-    → AllJobsFit limits nothing_yet entries → IsPartitionOf entries table partition state → IsKept id_of state
+    → AllFit limits nothing_yet entries → IsPartitionOf entries table partition state → IsKept id_of state
     → rising_by (by_id id_of) (visible_rows id_of (sight_of (lists.list_in (state_of entries) table)) state.tree) ≡ rows_of partition (content (state_of entries) table)
 end-in-order limits entries table partition state fit is_of kept =
     let s = state_of entries in

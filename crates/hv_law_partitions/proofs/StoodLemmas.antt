@@ -20,15 +20,13 @@ use Rattle.hv_history.specs.declared.state.Table.{Table}
 use Rattle.hv_history.specs.declared.state.Transaction.{Transaction}
 use Rattle.hv_history.specs.declared.state.Written.{Written}
 use Rattle.hv_history.specs.Lasting.{IsFront, Later}
-use Rattle.hv_history.specs.Legal.{CommitFits}
-use Rattle.hv_history.specs.JobsFit.{JobFits, AllJobsFit}
+use Rattle.hv_history.specs.Legal.{CommitFits, Fits, AllFit}
 use Rattle.hv_history.specs.State.{State, numbered, changed, changed_at, forgot, nothing_yet, state_of, given_in, meaning, wrote_as, writes_of, written_by, owned, dropped, written_to, commits, tables_behind, made_by, acted, after}
 use Rattle.hv_history.proofs.LastingLaws.{kept-more, goes-on}
-use Rattle.hv_stands.specs.Sound.{info_in, given_of, owners_of, given_among, IsSingle, IsSoundBase}
+use Rattle.hv_stands.specs.Sound.{info_in, given_of, owners_of, given_among, IsSingle, IsSound}
 use Rattle.hv_stands.proofs.Numbers.{one_value, same_one, found, numbered-map, numbered-or-last}
 use Rattle.hv_stands.proofs.Soundness.{all-numbered}
-use Rattle.hv_stands.proofs.Keeping.{owner-table}
-use Rattle.hv_stands.proofs.JobKeeping.{base-next, nothing-base, all-fit-so}
+use Rattle.hv_stands.proofs.Keeping.{owner-table, sound-after, nothing-sound}
 use Rattle.hv_law_visible.specs.Members.{IsIn}
 use Rattle.hv_law_visible.specs.History.{Write, write_of}
 use Rattle.hv_law_visible.proofs.MemberLemmas.{in-either, from-map}
@@ -167,7 +165,7 @@ single-writes infos t single =
 
 -- ---- the write of a commit
 
-module _ (s : State) (event : Entry) (sound : IsSoundBase s) (n : ℕ) (t : Transaction) (at : numbered s.transactions n ≡ Some t)
+module _ (s : State) (event : Entry) (sound : IsSound s) (n : ℕ) (t : Transaction) (at : numbered s.transactions n ≡ Some t)
     (info : TableInfo) (effect : Effect) (write : ℕ) (means : meaning t ≡ Some (Change info effect)) (given : given_in info.table.0 t.given ≡ Some write) where
   new-stood : (next : Table) → numbered (after s event).tables info.table.0 ≡ Some next → (o : Option Snapshot) → t.snapshot ≡ o → IsTrue (is_some o)
       → KnowsBy s.tables o t.given (meaning t) → StoodAtSnapshot (after s event) info.table.0 next (written_by info.shape write 0 effect)
@@ -208,7 +206,7 @@ old-stood : (s : State) (event : Entry) (number : ℕ) (next : Table) (written :
 old-stood s event number next written h now was =
     stood-later s event number was.0 next written was.1 now (h number was.0 written was.1 was.2)
 
-module _ (s : State) (event : Entry) (sound : IsSoundBase s) (knows : AllByRecursion (Knows s.tables) s.transactions) (stood : AllStood s)
+module _ (s : State) (event : Entry) (sound : IsSound s) (knows : AllByRecursion (Knows s.tables) s.transactions) (stood : AllStood s)
     (n : ℕ) (t : Transaction) (at : numbered s.transactions n ≡ Some t) (taken : IsTrue (is_some t.snapshot))
     (tables : (after s event).tables ≡ tables_behind (commits (Some t)) s.tables) where
   commit-stood : AllStood (after s event)
@@ -231,7 +229,7 @@ module _ (s : State) (event : Entry) (sound : IsSoundBase s) (knows : AllByRecur
                 (all-numbered (Knows s.tables) s.transactions n t at knows)))
           ]
 
-stood-after : (limits : Limits) (s : State) (event : Entry) → JobFits limits s event → IsSoundBase s → AllByRecursion (Knows s.tables) s.transactions → AllStood s → AllStood (after s event)
+stood-after : (limits : Limits) (s : State) (event : Entry) → Fits limits s event → IsSound s → AllByRecursion (Knows s.tables) s.transactions → AllStood s → AllStood (after s event)
 unfolding acted
 stood-after limits s (entry.Boot run) fits sound knows h = λ number next written now here. old-stood s (entry.Boot run) number next written h now (next, now, here)
 stood-after limits s (entry.Opened txn session count text) fits sound knows h = λ number next written now here.
@@ -266,32 +264,32 @@ stood-after limits s (entry.Failed job cause) fits sound knows h = λ number nex
     old-stood s (entry.Failed job cause) number next written h now (next, now, here)
 stood-after limits s event fits sound knows h = absurd fits
 
-stood-all : (limits : Limits) (s : State) (more : List Entry) → AllJobsFit limits s more → IsSoundBase s → AllByRecursion (Knows s.tables) s.transactions → AllStood s
+stood-all : (limits : Limits) (s : State) (more : List Entry) → AllFit limits s more → IsSound s → AllByRecursion (Knows s.tables) s.transactions → AllStood s
     → AllStood (fold after s more)
 stood-all limits s [] fit sound knows h = h
 stood-all limits s (event ∷ more) fit sound knows h =
-    stood-all limits (after s event) more fit.1 (base-next limits s event fit.0 sound) (knows-after limits s event fit.0 sound knows)
+    stood-all limits (after s event) more fit.1 (sound-after limits s event fit.0 sound) (knows-after limits s event fit.0 sound knows)
     (stood-after limits s event fit.0 sound knows h)
 
 pub nothing-numbered : (number : ℕ) (table : Table) → numbered {A = Table} [] number ≡ Some table → ⊥
 nothing-numbered zero table e = cc
 nothing-numbered (suc n) table e = cc
 
-pub deleted-stood-so : (limits : Limits) (entries : List Entry) (number : ℕ) (table : Table) (written : Written) → AllJobsFit limits nothing_yet entries
+pub deleted-stood-so : (limits : Limits) (entries : List Entry) (number : ℕ) (table : Table) (written : Written) → AllFit limits nothing_yet entries
     → numbered (state_of entries).tables number ≡ Some table → IsIn written table.writes → StoodAtSnapshot (state_of entries) number table written
 deleted-stood-so limits entries number table written fit is at =
-    stood-all limits nothing_yet entries fit nothing-base tt (λ n t w e here. absurd (nothing-numbered n t e)) number table written is at
+    stood-all limits nothing_yet entries fit nothing-sound tt (λ n t w e here. absurd (nothing-numbered n t e)) number table written is at
 
 pub deleted-stood : DeletedRowsStood
 deleted-stood limits entries number table written fit is at =
-    deleted-stood-so limits entries number table written (all-fit-so limits nothing_yet entries fit) is at
+    deleted-stood-so limits entries number table written fit is at
 
 -- ---- in a partition
 
 front-map : {A B : Type 0} (f : A → B) (xs ys : List A) → IsFront xs ys → IsFront (map f xs) (map f ys)
 front-map f xs ys front = record { more = map f front.more; is = ap (map f) front.is ∙ map-append f xs front.more }
 
-pub deletes-later-so : (limits : Limits) (entries : List Entry) (table : ℕ) (partition : List ℕ) (w : Write Found) (id : RowId) → AllJobsFit limits nothing_yet entries
+pub deletes-later-so : (limits : Limits) (entries : List Entry) (table : ℕ) (partition : List ℕ) (w : Write Found) (id : RowId) → AllFit limits nothing_yet entries
     → IsIn w (writes_in (state_of entries) table partition) → IsIn id w.deletes → IsDeletedLater (state_of entries) table partition w id
 deletes-later-so limits entries table partition w id fit among deleted = by (numbered (state_of entries).tables table) refl among
   where
@@ -327,7 +325,7 @@ deletes-later-so limits entries table partition w id fit among deleted = by (num
 
 pub deletes-later : DeletesAreLater
 deletes-later limits entries table partition w id fit among deleted =
-    deletes-later-so limits entries table partition w id (all-fit-so limits nothing_yet entries fit) among deleted
+    deletes-later-so limits entries table partition w id fit among deleted
 
 pub history-sound : HistoryIsSound
 history-sound limits entries table partition most fit =

@@ -35,15 +35,16 @@ module _ (low high : ℕ) (unrisen : high ≤ low) where
       subst AreSteady same (steady-all grows.more grows.of_run (remembered grows.more grows.book_is))
 
 pub script-history : ScriptHistory
-script-history faults book source written store refused all calm =
+script-history faults book source written stores refused all calm =
+    let start : List Entry = opening_of stores.was.tree book in
     let last : Standing = all.served.last in
-    let is : last ≡ history_of book source.was =
-    serial-history (opening_of book) last (actions_of source.was) all.served.output refused all.served.are_done (record {
+    let is : last ≡ history_of stores.was.tree book source.was =
+    serial-history start last (actions_of source.was) all.served.output refused all.served.are_done (record {
       legal = all.served.is_book.legal;
-      steady = adds-steadily faults.was faults.now calm.unrisen (opening_of book) last.book all.served.is_book.grows calm.in_memory;
+      steady = adds-steadily faults.was faults.now calm.unrisen start last.book all.served.is_book.grows calm.in_memory;
       in_memory = calm.replies;
     }) in
     record {
-      has_book = subst (λ (s : Standing). HasBook s.book store) is all.served.has_book;
+      has_book = subst (λ (s : Standing). HasBook s.book stores.now) is all.served.has_book;
       settled = subst (λ (s : Standing). s.waiting ≡ []) is all.settled;
     }

@@ -19,7 +19,8 @@ AddsSteadily start book = (added : List Entry) → book ≡ start ++ added → A
 abbrev pub memory_line : List ℕ
 memory_line = cause_text None cause.Memory
 
-abbrev pub AreInMemory : (books : Change (List Entry)) (before now : Standing) (actions : List Action) (output : List ℕ) (refused : Bool)
+abbrev pub AreInMemory : (books : Change (List Entry)) (before now : Standing) (actions : List Action) (output : List ℕ)
+    (refused : Bool)
     → AreDone books before now actions output refused → Type 0
 AreInMemory books before now [] output refused done = Unit {0}
 AreInMemory books before now (first ∷ more) output refused done =

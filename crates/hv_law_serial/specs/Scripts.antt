@@ -1,7 +1,7 @@
 -- What is proved of a script that was done whole: where no device failed and memory was found, the store keeps its serial history.
 use Rattle.std.specs.Prelude.{◌≡◌, ℕ, ◌≤◌, Bool, List, [], ◌++◌}
 use Rattle.std.specs.List.{AllByRecursion}
-use Rattle.hv_shelf.specs.Disk.{Store}
+use Rattle.hv_shelf.specs.Disk.{Store, Tree}
 use Rattle.hv_script.specs.Actions.{actions_of}
 use Rattle.hv_history.specs.declared.entry.Entry.{Entry}
 use Rattle.hv_history.specs.declared.entry.Entry.TheVariants as entry
@@ -23,25 +23,27 @@ IsInMemory event = Unit {0}
 abbrev pub AddsInMemory : List Entry → List Entry → Type 0
 AddsInMemory start book = (added : List Entry) → book ≡ start ++ added → AllByRecursion IsInMemory added
 
--- the serial history of a script, behind a book's opening
-abbrev pub history_of : List Entry → List ℕ → Standing
-history_of book script = serial (beginning (opening_of book)) (actions_of script)
+-- the serial history of a script, behind a book's opening over these files
+abbrev pub history_of : Tree → List Entry → List ℕ → Standing
+history_of files book script = serial (beginning (opening_of files book)) (actions_of script)
 
 -- In a run that did all its script the store's count of faults didn't rise, and memory was found, by its entries and by its replies.
-pub record IsUntroubled (faults : Change ℕ) (book : List Entry) (source written : Change (List ℕ)) (store : Store) (refused : Bool)
-    (all : IsAllDone faults book source written store refused) : Type 0 where
+pub record IsUntroubled (faults : Change ℕ) (book : List Entry) (source written : Change (List ℕ))
+    (stores : Change Store) (refused : Bool)
+    (all : IsAllDone faults book source written stores refused) : Type 0 where
   pub unrisen : faults.now ≤ faults.was
-  pub in_memory : AddsInMemory (opening_of book) all.served.last.book
-  pub replies : AreInMemory (from_to (opening_of book) all.served.last.book) (beginning (opening_of book)) all.served.last (actions_of source.was) all.served.output refused
-      all.served.are_done
+  pub in_memory : AddsInMemory (opening_of stores.was.tree book) all.served.last.book
+  pub replies : AreInMemory (from_to (opening_of stores.was.tree book) all.served.last.book)
+      (beginning (opening_of stores.was.tree book)) all.served.last
+      (actions_of source.was) all.served.output refused all.served.are_done
 
 -- the store has the book of the serial history, behind which none waits
-pub record KeepsHistory (book : List Entry) (script : List ℕ) (store : Store) : Type 0 where
-  pub has_book : HasBook (history_of book script).book store
-  pub settled : (history_of book script).waiting ≡ []
+pub record KeepsHistory (book : List Entry) (script : List ℕ) (stores : Change Store) : Type 0 where
+  pub has_book : HasBook (history_of stores.was.tree book script).book stores.now
+  pub settled : (history_of stores.was.tree book script).waiting ≡ []
 
 abbrev pub ScriptHistory : Type 0
 ScriptHistory =
-    (faults : Change ℕ) (book : List Entry) (source written : Change (List ℕ)) (store : Store) (refused : Bool)
-    (all : IsAllDone faults book source written store refused)
-    → IsUntroubled faults book source written store refused all → KeepsHistory book source.was store
+    (faults : Change ℕ) (book : List Entry) (source written : Change (List ℕ)) (stores : Change Store) (refused : Bool)
+    (all : IsAllDone faults book source written stores refused)
+    → IsUntroubled faults book source written stores refused all → KeepsHistory book source.was stores

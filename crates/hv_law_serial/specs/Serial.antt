@@ -36,7 +36,8 @@ waits_if false one waiting = waiting
 abbrev pub stood : List Waiting → Asking → ℕ → List Entry → Standing
 stood waiting asking txn book = record {
   book = book;
-  waiting = waits_if (is_open_one (numbered (state_of book).transactions txn)) (record { session = asking.session; txn = txn }) waiting;
+  waiting = waits_if (is_open_one (numbered (state_of book).transactions txn))
+      (record { session = asking.session; txn = txn }) waiting;
 }
 
 abbrev pub opened_up : Standing → Asking → Option Stage → Standing

@@ -23,8 +23,8 @@ use Rattle.hv_law_visible.specs.History as visible
 use Rattle.hv_law_visible.specs.History.{Write, is_upto, rows_in}
 use Rattle.hv_law_visible.proofs.MemberLemmas.{from-flat, in-map, from-map, in-filter, from-filter, in-any}
 use Rattle.hv_law_visible.proofs.SortingLemmas.{from-sorted}
-use Rattle.hv_law_partitions.specs.Partitions.{id_of, write_in, writes_of}
-use Rattle.hv_law_partitions.proofs.ContentLemmas.{content-of-partition}
+use Rattle.hv_law_directories.specs.hv_law_partitions.specs.Partitions.{id_of, write_in, writes_of}
+use Rattle.hv_law_directories.specs.hv_law_partitions.proofs.ContentLemmas.{content-of-partition}
 use Rattle.hv_law_directories.specs.Directories.{base_name, inserted_by}
 use Rattle.hv_law_directories.proofs.DirLemmas.{number-same}
 use Rattle.hv_law_whole.specs.Whole.{IsStored}

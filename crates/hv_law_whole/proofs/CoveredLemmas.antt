@@ -20,8 +20,8 @@ use Rattle.hv_history.specs.declared.state.Written.{Written}
 use Rattle.hv_history.specs.State.{State, Job, numbered, state_of}
 use Rattle.hv_history.specs.Legal.{profile, touch_cmp, Rise}
 use Rattle.hv_history.specs.Jobs.{Events, inserts, deletes, is_between, is_job_of, jobs_in, is_touch_of, events_of, events_if, events_by, events_at, events_from, ids_of, events_in}
-use Rattle.hv_stands.specs.Sound.{IsSoundBase}
 use Rattle.hv_stands.proofs.FileRecords.{tied}
+use Rattle.hv_stands.specs.Sound.{IsSound}
 use Rattle.hv_jobs.specs.Covers.{names_by, job_names, covers}
 use Rattle.hv_jobs.specs.Covered.{own, wide, base, changes, has_within, covered_if, own_covered, published_covered, made_covered, covered_names}
 use Rattle.hv_law_jobs.specs.Sound.{HasSoundRange, IsSoundJob}
@@ -103,7 +103,7 @@ event-from ts table partition write first (owner_of ∷ owners) (suc k) txn e nu
     in-right e (events_at table partition first (numbered ts owner_of)) (events_from ts table partition (first + 1) owners)
     (event-from ts table partition write (first + 1) owners k txn e next at among)
 
-module _ (s : State) (base_sound : IsSoundBase s) (number : ℕ) (table : Table) (here : numbered s.tables number ≡ Some table) (partition : List ℕ)
+module _ (s : State) (base_sound : IsSound s) (number : ℕ) (table : Table) (here : numbered s.tables number ≡ Some table) (partition : List ℕ)
     (touched : (w : Written) → IsIn w table.writes → IsTouched s number w) where
   event-among : (write txn : ℕ) (e : Events) → numbered table.owners write ≡ Some txn → IsIn e (events_at number partition write (numbered s.transactions txn))
       → IsIn e (events_in s number partition)
@@ -165,7 +165,7 @@ first-by s job (Some other) sound range e =
     let same : other ≡ range = cc in
     subst (λ (r : ℕ × ℕ × ℕ). 1 ≤ r.0) same sound.first
 
-module _ (s : State) (base_sound : IsSoundBase s) (job : Job) (table : Table) (here : numbered s.tables job.table ≡ Some table)
+module _ (s : State) (base_sound : IsSound s) (job : Job) (table : Table) (here : numbered s.tables job.table ≡ Some table)
     (touched : (w : Written) → IsIn w table.writes → IsTouched s job.table w) where
   abbrev ids : List Events
   ids = events_in s job.table job.partition
@@ -191,7 +191,7 @@ module _ (s : State) (base_sound : IsSoundBase s) (job : Job) (table : Table) (h
       (own-listed job deleted e.0 e.3 (subst (λ (name : DirName). covers job name ≡ true) (sym name_is) covered)))
 
   -- a wide delta
-  within-range : (deleted : Bool) (low high : ℕ) → 1 ≤ low → is_made table.writes job.partition (wide deleted low high) ≡ true → has_within deleted low high ids ≡ true
+  pub within-range : (deleted : Bool) (low high : ℕ) → 1 ≤ low → is_made table.writes job.partition (wide deleted low high) ≡ true → has_within deleted low high ids ≡ true
   within-range deleted low high first made =
       let v = in-any (has_events deleted job.partition) (filter (has_written (Wide low high)) table.writes) made in
       let its = from-filter (has_written (Wide low high)) v.0 table.writes v.1 in

@@ -64,9 +64,9 @@ use Rattle.hv_law_published.specs.Laws.{working_sight, is_within}
 use Rattle.hv_law_published.proofs.GatherLemmas.{gathers}
 use Rattle.hv_law_published.proofs.RetiredLemmas.{greatest, stand-sorted, end-valid}
 use Rattle.hv_law_published.proofs.StateLemmas.{list-fits}
-use Rattle.hv_law_partitions.specs.Partitions.{id_of, is_of, rows_of, write_in, writes_of, written_in}
-use Rattle.hv_law_partitions.proofs.ContentLemmas.{from-rows}
-use Rattle.hv_law_partitions.proofs.IdLemmas.{numbered-in}
+use Rattle.hv_law_directories.specs.hv_law_partitions.specs.Partitions.{id_of, is_of, rows_of, write_in, writes_of, written_in}
+use Rattle.hv_law_directories.specs.hv_law_partitions.proofs.ContentLemmas.{from-rows}
+use Rattle.hv_law_directories.specs.hv_law_partitions.proofs.IdLemmas.{numbered-in}
 use Rattle.hv_law_directories.specs.Reading.{Reading}
 use Rattle.hv_law_whole.specs.Whole.{compaction_of}
 use Rattle.hv_law_whole.specs.Shown.{AreOfBook, partition_with}

@@ -19,7 +19,7 @@ use Rattle.hv_law_visible.specs.History.{Compaction, Minor, Major, end_of, mark_
 use Rattle.hv_law_visible.specs.Stands.{IsLoose, IsLooseBase}
 use Rattle.hv_law_visible.specs.Readers.{IsPast}
 use Rattle.hv_law_visible.proofs.MemberLemmas.{in-flat, from-flat, in-any}
-use Rattle.hv_law_partitions.specs.States.{open_from}
+use Rattle.hv_law_directories.specs.hv_law_partitions.specs.States.{open_from}
 use Rattle.hv_law_directories.specs.Directories.{base_name}
 use Rattle.hv_law_whole.specs.Whole.{compaction_of, compactions_by, compactions_of, published_among}
 
@@ -127,7 +127,7 @@ differ-from first last low high is e =
     and_from (first == low) (last == high) (eq-eqb first low (ap low_of e)) (eq-eqb last high (ap high_of e)) in
     true≢false (sym is ∙ ap not both)
 
-delta-covered : (k : JobKind) (range : ℕ × ℕ × ℕ) (deletes : Bool) (d : Delta) → covers_range k range.0 range.1 (delta_name deletes d) ≡ true
+pub delta-covered : (k : JobKind) (range : ℕ × ℕ × ℕ) (deletes : Bool) (d : Delta) → covers_range k range.0 range.1 (delta_name deletes d) ≡ true
     → CoversDelta (compaction_of k range) d
 delta-covered kind.Minor range deletes (Own write statement) is =
     let both = and_parts (nat_le range.0 write) (nat_le write range.1) is in
@@ -139,7 +139,7 @@ delta-covered kind.Minor range deletes (Wide first last) is =
 delta-covered kind.Major range deletes (Own write statement) is = leb-true write range.1 is
 delta-covered kind.Major range deletes (Wide first last) is = leb-true last range.1 is
 
-base-covered : (k : JobKind) (range : ℕ × ℕ × ℕ) (base : ℕ) → covers_range k range.0 range.1 (base_name base) ≡ true → CoversBase (compaction_of k range) base
+pub base-covered : (k : JobKind) (range : ℕ × ℕ × ℕ) (base : ℕ) → covers_range k range.0 range.1 (base_name base) ≡ true → CoversBase (compaction_of k range) base
 base-covered kind.Minor range base is = absurd (true≢false (sym is))
 base-covered kind.Major range base is = ltb-true base range.1 is
 
@@ -173,7 +173,7 @@ first-least n mark (t ∷ ts) none txn at = by (is_open t) (first-least (n + 1) 
         omega (arith, low, above)
     by false rest is there = rest is txn there
 
-mark-is : (k : JobKind) (range : ℕ × ℕ × ℕ) → mark_of (compaction_of k range) ≡ range.2
+pub mark-is : (k : JobKind) (range : ℕ × ℕ × ℕ) → mark_of (compaction_of k range) ≡ range.2
 mark-is kind.Minor range = refl
 mark-is kind.Major range = refl
 

@@ -20,15 +20,14 @@ use Rattle.hv_history.specs.declared.state.Table.{Table}
 use Rattle.hv_history.specs.declared.state.Transaction.{Transaction}
 use Rattle.hv_history.specs.declared.state.Written.{Written}
 use Rattle.hv_history.specs.State.{State, Job, numbered, state_of, after, nothing_yet, content_of, content_in}
-use Rattle.hv_history.specs.Legal.{profile, is_working}
+use Rattle.hv_history.specs.Legal.{profile, is_working, AllFit}
 use Rattle.hv_history.specs.Jobs.{is_initiated, is_busy, is_open_one, is_job_of, jobs_of, ids_of, ended_front, watermark}
-use Rattle.hv_history.specs.JobsFit.{AllJobsFit}
 use Rattle.hv_book.specs.Past.{owners_in, forgotten_in}
 use Rattle.hv_earlier.specs.Fates as earlier_fates
 use Rattle.hv_earlier.specs.declared.fates.Fate as earlier
 use Rattle.hv_earlier.specs.Lists as lists
 use Rattle.hv_stands.specs.Files.{AreEncoded, IsEncoded, IsSaid}
-use Rattle.hv_stands.specs.Sound.{IsRoutedWrite, HasSoundWrites, IsSoundBase}
+use Rattle.hv_stands.specs.Sound.{IsRoutedWrite, HasSoundWrites, IsSound}
 use Rattle.hv_stands.proofs.Numbers.{same_one, found, numbered-map}
 use Rattle.hv_stands.proofs.Soundness.{all-numbered}
 use Rattle.hv_stands.proofs.Behind.{entries-are}
@@ -50,12 +49,12 @@ use Rattle.hv_law_visible.proofs.ListLemmas.{valid-same, says-up-to}
 use Rattle.hv_law_visible.proofs.MemberLemmas.{from-flat, from-filter}
 use Rattle.hv_law_visible.proofs.SortingLemmas.{all-from}
 use Rattle.hv_law_visible.proofs.TakenLemmas.{all-in}
-use Rattle.hv_law_partitions.specs.Partitions.{id_of, rows_of, write_in, writes_of, written_in, writes_in, fate_by, fates_from, fates_in}
-use Rattle.hv_law_partitions.proofs.IdLemmas.{numbered-in}
-use Rattle.hv_law_partitions.proofs.PlaceLemmas.{snapshots-of-places-so}
-use Rattle.hv_law_partitions.proofs.ListLemmas.{list-in}
-use Rattle.hv_law_partitions.proofs.CommitLemmas.{committed-in}
-use Rattle.hv_law_partitions.proofs.StateLemmas.{AreKnown, kept-with, shown-of, readers-in-order-so, end-in-order}
+use Rattle.hv_law_directories.specs.hv_law_partitions.specs.Partitions.{id_of, rows_of, write_in, writes_of, written_in, writes_in, fate_by, fates_from, fates_in}
+use Rattle.hv_law_directories.specs.hv_law_partitions.proofs.IdLemmas.{numbered-in}
+use Rattle.hv_law_directories.specs.hv_law_partitions.proofs.PlaceLemmas.{snapshots-of-places-so}
+use Rattle.hv_law_directories.specs.hv_law_partitions.proofs.ListLemmas.{list-in}
+use Rattle.hv_law_directories.specs.hv_law_partitions.proofs.CommitLemmas.{committed-in}
+use Rattle.hv_law_directories.specs.hv_law_partitions.proofs.StateLemmas.{AreKnown, kept-with, shown-of, readers-in-order-so, end-in-order}
 use Rattle.hv_law_directories.specs.Reading.{Reading}
 use Rattle.hv_law_whole.specs.Whole.{compaction_of, compactions_by, compactions_of, published_in, IsStoredWrite, IsPartOf}
 use Rattle.hv_law_whole.specs.Shown.{AreOfBook, partition_with, PartitionsAreKept, ReadersAreShown, TheEndIsShown, JobsReadUpToMark}
@@ -172,14 +171,14 @@ pub major-is : (k : JobKind) (range : ℕ × ℕ × ℕ) (last mark : ℕ) → c
 major-is kind.Minor range last mark e = cc
 major-is kind.Major range last mark e = ap end_of e
 
-front-jobs-fit : (limits : Limits) (entries : List Entry) (s : State) (place : ℕ) → AllJobsFit limits s entries → AllJobsFit limits s (take place entries)
+front-jobs-fit : (limits : Limits) (entries : List Entry) (s : State) (place : ℕ) → AllFit limits s entries → AllFit limits s (take place entries)
 front-jobs-fit limits entries s zero fit = tt
 front-jobs-fit limits [] s (suc place) fit = tt
 front-jobs-fit limits (event ∷ entries) s (suc place) fit = (fit.0, front-jobs-fit limits entries (after s event) place fit.1)
 
 -- ---- what is known of them
 
-module _ (entries : List Entry) (fit : AllJobsFit profile nothing_yet entries) where
+module _ (entries : List Entry) (fit : AllFit profile nothing_yet entries) where
   abbrev s : State
   s = state_of entries
 
@@ -434,7 +433,7 @@ written-up-to partition mark (written ∷ writes) = by (nat_le written.write mar
     by true rest = ap (λ ws. write_in partition written ∷ ws) rest
     by false rest = rest
 
-shown-up-to : (s : State) (table : ℕ) (partition : List ℕ) (mark : ℕ) → IsSoundBase s
+shown-up-to : (s : State) (table : ℕ) (partition : List ℕ) (mark : ℕ) → IsSound s
     → writes_shown (sight_of (list_up_to mark (list_at (fates_in s table)))) (writes_in s table partition)
     ≡ writes_of partition (filter (is_up_to mark) (written_in (numbered s.tables table)))
 shown-up-to s table partition mark base =

@@ -42,8 +42,8 @@ use Rattle.hv_law_visible.specs.Readers.{IsPast}
 use Rattle.hv_law_visible.proofs.MemberLemmas.{in-flat, from-flat, in-map, from-map, in-filter, from-filter}
 use Rattle.hv_law_visible.proofs.SortingLemmas.{from-sorted, to-sorted}
 use Rattle.hv_law_visible.proofs.TakenLemmas.{all-in}
-use Rattle.hv_law_partitions.specs.Partitions.{fate_by, fates_from, fates_in, write_in, writes_of}
-use Rattle.hv_law_partitions.specs.States.{open_from}
+use Rattle.hv_law_directories.specs.hv_law_partitions.specs.Partitions.{fate_by, fates_from, fates_in, write_in, writes_of}
+use Rattle.hv_law_directories.specs.hv_law_partitions.specs.States.{open_from}
 use Rattle.hv_law_directories.specs.Reading.{Reading, IsReading}
 use Rattle.hv_law_directories.specs.Directories.{dir_of, base_name, IsThere, recs_in, inserted_by, rows_held}
 use Rattle.hv_law_directories.proofs.DirLemmas.{IsInDir, in-dir, dir-in, from-recs, to-recs, delta-owned, base-not-owned}

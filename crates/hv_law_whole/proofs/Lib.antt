@@ -13,3 +13,4 @@ pub mod CoveredLemmas
 pub mod DistinctLemmas
 pub mod SaidLemmas
 pub mod ListedLemmas
+pub mod FinalLemmas

@@ -20,7 +20,7 @@ use Rattle.hv_history.specs.declared.state.Written.{Written}
 use Rattle.hv_history.specs.State.{State, Job, numbered, given_in, written_by, state_of}
 use Rattle.hv_history.specs.Legal.{profile}
 use Rattle.hv_history.specs.Jobs.{Events, inserts, deletes, is_between, jobs_in, is_touch_of, events_of, events_if, events_by, events_at, events_from, ids_of, events_in}
-use Rattle.hv_stands.specs.Sound.{given_of, owners_of, given_among, owner_among, IsSoundBase}
+use Rattle.hv_stands.specs.Sound.{given_of, owners_of, given_among, owner_among, IsSound}
 use Rattle.hv_stands.proofs.Numbers.{one_value, same_one, numbered-map}
 use Rattle.hv_jobs.specs.Covers.{range_names, names_by, job_names, covers}
 use Rattle.hv_jobs.specs.Covered.{own, wide, base, changes, has_within, covered_if, own_covered, published_covered, made_covered, covered_names}
@@ -125,7 +125,7 @@ record HasWrite (table : Table) (partition : List ℕ) (e : Events) : Type 0 whe
   first : w.statement ≡ 0
   rows : (deleted : Bool) → changes deleted e ≡ true → has_events deleted partition w ≡ true
 
-module _ (s : State) (base_sound : IsSoundBase s) (said : AllSaid s) (number : ℕ) (table : Table) (here : numbered s.tables number ≡ Some table) (partition : List ℕ) where
+module _ (s : State) (base_sound : IsSound s) (said : AllSaid s) (number : ℕ) (table : Table) (here : numbered s.tables number ≡ Some table) (partition : List ℕ) where
   -- its rows, of a touch of its partition
   some-there : (rows : List Found) (row : Found) → IsIn row rows → row.partition ≡ partition → list_any (in_partition partition) rows ≡ true
   some-there rows row at part = any-in (in_partition partition) row rows at (text-same row.partition partition part)
@@ -175,7 +175,7 @@ from-listed job made name x at = by (made && covers job name) refl at
     by true is (inr none) = absurd none
     by false is none = absurd none
 
-module _ (s : State) (base_sound : IsSoundBase s) (said : AllSaid s) (job : Job) (table : Table) (here : numbered s.tables job.table ≡ Some table) where
+module _ (s : State) (base_sound : IsSound s) (said : AllSaid s) (job : Job) (table : Table) (here : numbered s.tables job.table ≡ Some table) where
   abbrev ids : List Events
   ids = events_in s job.table job.partition
 
@@ -235,7 +235,7 @@ module _ (s : State) (base_sound : IsSoundBase s) (said : AllSaid s) (job : Job)
           moved (own true e.write) its.2 (own-made true e among its.0) its.1
 
   -- and of another job
-  wide-made : (deleted : Bool) (low high : ℕ) → has_within deleted low high ids ≡ true → is_made table.writes job.partition (wide deleted low high) ≡ true
+  pub wide-made : (deleted : Bool) (low high : ℕ) → has_within deleted low high ids ≡ true → is_made table.writes job.partition (wide deleted low high) ≡ true
   wide-made deleted low high some =
       let e = in-any (λ (events : Events). is_between (low - 1) high events && changes deleted events) ids some in
       let both = and_parts (is_between (low - 1) high e.0) (changes deleted e.0) e.2 in

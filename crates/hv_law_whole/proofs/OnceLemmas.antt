@@ -24,28 +24,25 @@ use Rattle.hv_history.specs.declared.state.Table.{Table}
 use Rattle.hv_history.specs.declared.state.Transaction.{Transaction}
 use Rattle.hv_history.specs.declared.state.Written.{Written}
 use Rattle.hv_history.specs.State.{State, numbered, changed, content_of, is_deleted, given_in, meaning, written_by, commits, tables_behind, written_to, owned, dropped, forgot, made_by, first_of, unless_ended, while_open, opened, started, given_id, committed, ended, acted, after, nothing_yet}
-use Rattle.hv_history.specs.Legal.{profile, CommitFits, Rise, TouchesAreMeant, CommitIsTrue, IsTruthful, AllTruthful, commits_against, place_of_snapshot, touch_conflicts, touches_conflict}
-use Rattle.hv_history.specs.JobsFit.{JobFits, AllJobsFit}
+use Rattle.hv_history.specs.Legal.{profile, CommitFits, Rise, TouchesAreMeant, CommitIsTrue, IsTruthful, AllTruthful, commits_against, place_of_snapshot, touch_conflicts, touches_conflict, Fits, AllFit}
 use Rattle.hv_history.proofs.LastingLaws.{goes-on}
 use Rattle.hv_route.specs.Touching.{touches_of}
-use Rattle.hv_stands.specs.Sound.{info_in, IsSingle, IsSoundBase}
+use Rattle.hv_stands.specs.Sound.{info_in, IsSingle, IsSound}
 use Rattle.hv_stands.proofs.FileRecords.{tied}
 use Rattle.hv_stands.proofs.Numbers.{one_value, same_one, found, numbered-or-last}
 use Rattle.hv_stands.proofs.Soundness.{all-more, all-numbered}
-use Rattle.hv_stands.proofs.Written.{base-of}
 use Rattle.hv_stands.proofs.StandingRows.{found-total}
-use Rattle.hv_stands.proofs.Keeping.{still-open, open-here, nothing-sound}
-use Rattle.hv_stands.proofs.JobKeeping.{base-next}
+use Rattle.hv_stands.proofs.Keeping.{still-open, open-here, nothing-sound, sound-after}
 use Rattle.hv_law_jobs.proofs.GrowLemmas.{ended-same}
 use Rattle.hv_law_made.proofs.NamedLemmas.{text-same}
 use Rattle.hv_law_made.proofs.StepLemmas.{numbered-in}
 use Rattle.hv_law_visible.specs.Members.{IsIn}
 use Rattle.hv_law_visible.proofs.MemberLemmas.{in-either, in-flat, from-map, from-filter, any-in}
 use Rattle.hv_law_visible.proofs.SortingLemmas.{all-from, from-sorted}
-use Rattle.hv_law_partitions.specs.Partitions.{id_of, rows_of, write_in, writes_of, written_in}
-use Rattle.hv_law_partitions.proofs.ContentLemmas.{from-rows}
-use Rattle.hv_law_partitions.proofs.SnapshotLemmas.{Knows, KnowsBy, knows-after}
-use Rattle.hv_law_partitions.proofs.StoodLemmas.{changed-from, OneWrite, single-writes}
+use Rattle.hv_law_directories.specs.hv_law_partitions.specs.Partitions.{id_of, rows_of, write_in, writes_of, written_in}
+use Rattle.hv_law_directories.specs.hv_law_partitions.proofs.ContentLemmas.{from-rows}
+use Rattle.hv_law_directories.specs.hv_law_partitions.proofs.SnapshotLemmas.{Knows, KnowsBy, knows-after}
+use Rattle.hv_law_directories.specs.hv_law_partitions.proofs.StoodLemmas.{changed-from, OneWrite, single-writes}
 use Rattle.hv_law_whole.specs.Shown.{DeletesOthers, AreDeletedOnce, RowsGoOnce}
 use Rattle.hv_law_whole.proofs.TouchLemmas.{SaysInserted, SaysDeleted, inserted-touched, deleted-touched}
 
@@ -118,7 +115,7 @@ Since s snapshot =
     → IsIn w before.writes ⊎ Behind s snapshot number w
 
 record IsOnce (s : State) : Type 0 where
-  base : IsSoundBase s
+  base : IsSound s
   knows : AllByRecursion (Knows s.tables) s.transactions
   touched : (number : ℕ) (table : Table) (w : Written) → numbered s.tables number ≡ Some table → IsIn w table.writes → IsTouched s number w
   since : (n : ℕ) (t : Transaction) (snapshot : Snapshot) → numbered s.transactions n ≡ Some t → t.snapshot ≡ Some snapshot → Since s snapshot
@@ -151,7 +148,7 @@ Takes s event =
     → ((before : Transaction) × (numbered s.transactions n ≡ Some before) × (before.snapshot ≡ Some snapshot))
     ⊎ ((snapshot ≡ record { place = s.entries; tables = s.tables; opened = length s.transactions }) × ((after s event).tables ≡ s.tables))
 
-module _ (s : State) (event : Entry) (once : IsOnce s) (base : IsSoundBase (after s event))
+module _ (s : State) (event : Entry) (once : IsOnce s) (base : IsSound (after s event))
     (knows : AllByRecursion (Knows (after s event).tables) (after s event).transactions) (goes : Goes s event) (takes : Takes s event) where
   abbrev now : State
   now = after s event
@@ -414,7 +411,7 @@ goes-by s txn wrote truth once t at fits tables (inr (info, effect, write, means
     commit-goes s txn wrote once t at fits info effect write means given (true-touches s txn wrote t at truth info effect means)
     (tables ∙ ap (λ ws. tables_behind ws s.tables) one)
 
-goes-of : (limits : Limits) (s : State) (event : Entry) → JobFits limits s event → IsTruthful s event → IsOnce s → Goes s event
+goes-of : (limits : Limits) (s : State) (event : Entry) → Fits limits s event → IsTruthful s event → IsOnce s → Goes s event
 unfolding acted
 goes-of limits s (entry.Given txn table write) fits truth once = keeps-changed s (entry.Given txn table write) (owned txn.0) (λ t. refl) table.0 refl
 goes-of limits s (entry.Commit txn wrote) fits truth once =
@@ -439,7 +436,7 @@ goes-of limits s (entry.Next txn statement number text) fits truth once = absurd
 goes-of limits s (entry.Did txn statement wrote) fits truth once = absurd fits
 goes-of limits s (entry.Alter txn table) fits truth once = absurd fits
 
-pub takes-of : (limits : Limits) (s : State) (event : Entry) → JobFits limits s event → Takes s event
+pub takes-of : (limits : Limits) (s : State) (event : Entry) → Fits limits s event → Takes s event
 unfolding acted
 takes-of limits s (entry.Opened txn session number text) fits = takes-opened s (entry.Opened txn session number text) session number text refl
 takes-of limits s (entry.Start txn statement) fits = takes-started s (entry.Start txn statement) statement txn.0 refl refl
@@ -462,11 +459,11 @@ takes-of limits s (entry.Alter txn table) fits = absurd fits
 
 -- ---- books
 
-all-once : (limits : Limits) (book : List Entry) (s : State) → AllJobsFit limits s book → AllTruthful s book → IsOnce s → IsOnce (fold after s book)
+all-once : (limits : Limits) (book : List Entry) (s : State) → AllFit limits s book → AllTruthful s book → IsOnce s → IsOnce (fold after s book)
 all-once limits [] s fit truth once = once
 all-once limits (event ∷ book) s fit truth once =
     all-once limits book (after s event) fit.1 truth.1
-    (step-once s event once (base-next limits s event fit.0 once.base) (knows-after limits s event fit.0 once.base once.knows) (goes-of limits s event fit.0 truth.0 once)
+    (step-once s event once (sound-after limits s event fit.0 once.base) (knows-after limits s event fit.0 once.base once.knows) (goes-of limits s event fit.0 truth.0 once)
     (takes-of limits s event fit.0))
 
 nowhere : {A : Type 0} (n : ℕ) (x : A) → numbered {A = A} [] n ≡ Some x → ⊥
@@ -475,7 +472,7 @@ nowhere (suc n) x e = cc
 
 nothing-once : IsOnce nothing_yet
 nothing-once = record {
-  base = base-of nothing_yet nothing-sound;
+  base = nothing-sound;
   knows = tt;
   touched = λ number table w here at. absurd (nowhere number table here);
   since = λ n t snapshot at taken. absurd (nowhere n t at);
@@ -484,11 +481,11 @@ nothing-once = record {
 }
 
 -- what is known of each write
-pub books-touched : (limits : Limits) (book : List Entry) → AllJobsFit limits nothing_yet book → AllTruthful nothing_yet book → (number : ℕ) (table : Table) (w : Written)
+pub books-touched : (limits : Limits) (book : List Entry) → AllFit limits nothing_yet book → AllTruthful nothing_yet book → (number : ℕ) (table : Table) (w : Written)
     → numbered (fold after nothing_yet book).tables number ≡ Some table → IsIn w table.writes → IsTouched (fold after nothing_yet book) number w
 books-touched limits book fit truth = (all-once limits book nothing_yet fit truth nothing-once).touched
 
-pub books-gone-once : (limits : Limits) (book : List Entry) → AllJobsFit limits nothing_yet book → AllTruthful nothing_yet book → (number : ℕ) (table : Table)
+pub books-gone-once : (limits : Limits) (book : List Entry) → AllFit limits nothing_yet book → AllTruthful nothing_yet book → (number : ℕ) (table : Table)
     → numbered (fold after nothing_yet book).tables number ≡ Some table → AreGoneOnce table.writes
 books-gone-once limits book fit truth = (all-once limits book nothing_yet fit truth nothing-once).once
 

@@ -17,7 +17,7 @@ use Rattle.hv_history.specs.State.{State, Job, numbered, state_of, content_of}
 use Rattle.hv_history.specs.Legal.{profile}
 use Rattle.hv_history.specs.Jobs.{greatest, is_job_of, is_touch_of, events_if, events_by, events_at, events_from, ids_of, events_in, write_of, mark_by, pieces_for}
 use Rattle.hv_history.specs.Jobs as jobs
-use Rattle.hv_stands.specs.Sound.{given_of, owners_of, given_among, owner_among, IsSoundBase}
+use Rattle.hv_stands.specs.Sound.{given_of, owners_of, given_among, owner_among, IsSound}
 use Rattle.hv_stands.proofs.Numbers.{numbered-map}
 use Rattle.hv_law_jobs.specs.Sound.{is_of_write}
 use Rattle.hv_law_jobs.proofs.CountLemmas.{marked-most, there-most}
@@ -30,9 +30,9 @@ use Rattle.hv_law_visible.specs.History as visible
 use Rattle.hv_law_visible.specs.History.{Write, is_row}
 use Rattle.hv_law_visible.specs.Visible.{by_id}
 use Rattle.hv_law_visible.proofs.MemberLemmas.{any-in}
-use Rattle.hv_law_partitions.specs.Partitions.{id_of, rows_of, write_in, writes_of}
-use Rattle.hv_law_partitions.proofs.ContentLemmas.{from-rows}
-use Rattle.hv_law_partitions.proofs.OrderLemmas.{content-in-order}
+use Rattle.hv_law_directories.specs.hv_law_partitions.specs.Partitions.{id_of, rows_of, write_in, writes_of}
+use Rattle.hv_law_directories.specs.hv_law_partitions.proofs.ContentLemmas.{from-rows}
+use Rattle.hv_law_directories.specs.hv_law_partitions.proofs.OrderLemmas.{content-in-order}
 use Rattle.hv_law_whole.specs.Shown.{JobsAreShown}
 use Rattle.hv_law_whole.proofs.OnceLemmas.{IsTouched, books-touched}
 use Rattle.hv_law_whole.proofs.KeptLemmas.{jobs-read}
@@ -90,7 +90,7 @@ module _ (s : State) (number : ℕ) (table : Table) (here : numbered s.tables nu
       subst (λ o. list_any (is_of_write (suc k)) (events_from s.transactions number partition 1 (ids_of o)) ≡ true) (sym here)
       (any-from s.transactions number partition (suc k) 1 table.owners k txn (omega arith) at any)
 
-  module _ (base : IsSoundBase s) (w : Written) (is : IsTouched s number w) where
+  module _ (base : IsSound s) (w : Written) (is : IsTouched s number w) where
     pub owner : numbered table.owners w.write ≡ Some is.txn
     owner =
         sym (ap (λ o. owner_among o w.write) (numbered-map owners_of s.tables number ∙ ap (option_map owners_of) here))
@@ -160,7 +160,7 @@ content-same these those inserts deletes =
     λ i. filter (λ (found : Found). not (list_any (λ (other : RowId). is_row other found.id) (deletes i))) (inserts i)
 
 -- what is left up to a mark is left up to the last write that wrote in the partition
-module _ (s : State) (base : IsSoundBase s) (number : ℕ) (table : Table) (here : numbered s.tables number ≡ Some table) (partition : List ℕ) (mark : ℕ)
+module _ (s : State) (base : IsSound s) (number : ℕ) (table : Table) (here : numbered s.tables number ≡ Some table) (partition : List ℕ) (mark : ℕ)
     (touched : (w : Written) → IsIn w table.writes → IsTouched s number w) where
   abbrev last : ℕ
   last = greatest (map write_of (filter (jobs.is_up_to mark) (events_in s number partition)))

@@ -31,18 +31,16 @@ use Rattle.hv_history.specs.declared.state.Table.{Table}
 use Rattle.hv_history.specs.declared.state.Transaction.{Transaction}
 use Rattle.hv_history.specs.declared.state.Written.{Written}
 use Rattle.hv_history.specs.State.{State, numbered, changed, given_in, meaning, writes_of, written_by, wrote_as, changed_at, commits, tables_behind, written_to, unless_ended, while_open, opened, started, given_id, committed, ended, acted, after, nothing_yet}
-use Rattle.hv_history.specs.Legal.{CommitFits, IsOwnTouch, TouchesAreMeant, CommitIsTrue, IsTruthful, AllTruthful}
-use Rattle.hv_history.specs.JobsFit.{JobFits, AllJobsFit}
-use Rattle.hv_stands.specs.Sound.{info_in, given_of, owners_of, given_among, IsSingle, IsSoundBase}
+use Rattle.hv_history.specs.Legal.{CommitFits, IsOwnTouch, TouchesAreMeant, CommitIsTrue, IsTruthful, AllTruthful, Fits, AllFit}
+use Rattle.hv_stands.specs.Sound.{info_in, given_of, owners_of, given_among, IsSingle, IsSound}
 use Rattle.hv_stands.proofs.Numbers.{one_value, none_is, same_one, found, numbered-map, numbered-or-last, changed-here}
 use Rattle.hv_stands.proofs.Soundness.{all-numbered}
-use Rattle.hv_stands.proofs.Keeping.{owner-table}
-use Rattle.hv_stands.proofs.JobKeeping.{base-next, nothing-base}
+use Rattle.hv_stands.proofs.Keeping.{owner-table, sound-after, nothing-sound}
 use Rattle.hv_law_visible.specs.Members.{IsIn}
 use Rattle.hv_law_visible.proofs.MemberLemmas.{in-left, in-right, in-either, in-flat, in-map, from-map}
 use Rattle.hv_law_visible.proofs.SortingLemmas.{from-sorted, to-sorted}
-use Rattle.hv_law_partitions.proofs.SnapshotLemmas.{meaning-single, tables-go-on}
-use Rattle.hv_law_partitions.proofs.StoodLemmas.{changed-from, OneWrite, single-writes}
+use Rattle.hv_law_directories.specs.hv_law_partitions.proofs.SnapshotLemmas.{meaning-single, tables-go-on}
+use Rattle.hv_law_directories.specs.hv_law_partitions.proofs.StoodLemmas.{changed-from, OneWrite, single-writes}
 use Rattle.hv_law_whole.proofs.TouchLemmas.{run-in, run-from}
 
 -- ---- counts that are some
@@ -267,7 +265,7 @@ says-none t wrote own (Some PartitionLimit) truth none = absurd truth
 
 -- ---- entry by entry
 
-module _ (s : State) (txn : TxnId) (wrote : List Touch) (base : IsSoundBase s) (t : Transaction) (at : numbered s.transactions txn.0 ≡ Some t) (fits : CommitFits s wrote t)
+module _ (s : State) (txn : TxnId) (wrote : List Touch) (base : IsSound s) (t : Transaction) (at : numbered s.transactions txn.0 ≡ Some t) (fits : CommitFits s wrote t)
     (truth : TouchesAreMeant wrote (meaning t)) where
   abbrev event : Entry
   event = entry.Commit txn wrote
@@ -315,7 +313,7 @@ other-end s _ t e place wrote other same = absurd (other (one_value e (Committed
 same-said : (a b : ℕ) (these those : List Touch) → Some (Committed a these) ≡ Some (Committed b those) → these ≡ those
 same-said a b these those e = cc
 
-said-of : (limits : Limits) (s : State) (event : Entry) → JobFits limits s event → IsTruthful s event → IsSoundBase s → SaysBehind s event
+said-of : (limits : Limits) (s : State) (event : Entry) → Fits limits s event → IsTruthful s event → IsSound s → SaysBehind s event
 unfolding acted
 said-of limits s (entry.Commit txn wrote) fits truth base =
     let here = found (CommitFits s wrote) (numbered s.transactions txn.0) fits in
@@ -361,10 +359,10 @@ said-of limits s (entry.Alter txn table) fits truth base = absurd fits
 
 -- ---- books
 
-all-said : (limits : Limits) (s : State) (book : List Entry) → AllJobsFit limits s book → AllTruthful s book → IsSoundBase s → AllSaid s → AllSaid (fold after s book)
+all-said : (limits : Limits) (s : State) (book : List Entry) → AllFit limits s book → AllTruthful s book → IsSound s → AllSaid s → AllSaid (fold after s book)
 all-said limits s [] fit truth base said = said
 all-said limits s (event ∷ book) fit truth base said =
-    all-said limits (after s event) book fit.1 truth.1 (base-next limits s event fit.0 base)
+    all-said limits (after s event) book fit.1 truth.1 (sound-after limits s event fit.0 base)
     (λ n t place wrote at over. elim (said-of limits s event fit.0 truth.0 base n t place wrote at over) [
       | inl old ↦ said-later s event t wrote (said n t place wrote old over)
       | inr now ↦ now
@@ -374,5 +372,5 @@ nowhere : {A : Type 0} (n : ℕ) (x : A) → numbered {A = A} [] n ≡ Some x �
 nowhere zero x e = cc
 nowhere (suc n) x e = cc
 
-pub books-said : (limits : Limits) (book : List Entry) → AllJobsFit limits nothing_yet book → AllTruthful nothing_yet book → AllSaid (fold after nothing_yet book)
-books-said limits book fit truth = all-said limits nothing_yet book fit truth nothing-base (λ n t place wrote at over. absurd (nowhere n t at))
+pub books-said : (limits : Limits) (book : List Entry) → AllFit limits nothing_yet book → AllTruthful nothing_yet book → AllSaid (fold after nothing_yet book)
+books-said limits book fit truth = all-said limits nothing_yet book fit truth nothing-sound (λ n t place wrote at over. absurd (nowhere n t at))

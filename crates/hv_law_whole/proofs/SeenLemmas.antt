@@ -8,11 +8,12 @@ use Rattle.hv_history.specs.declared.entry.Entry.TheVariants as entry
 use Rattle.hv_history.specs.declared.state.Snapshot.{Snapshot}
 use Rattle.hv_history.specs.declared.state.Transaction.{Transaction}
 use Rattle.hv_history.specs.State.{State, Job, numbered, changed, first_of, asked_job, picked, published_at, empty_at, failed_at, cleaned, acted, after, state_of}
-use Rattle.hv_history.specs.JobsFit.{JobFits, AllJobsFit, PublishedFits}
+use Rattle.hv_history.specs.JobsFit.{PublishedFits}
+use Rattle.hv_history.specs.Legal.{Fits, AllFit}
 use Rattle.hv_stands.proofs.Numbers.{one_value, found, numbered-or-last}
 use Rattle.hv_stands.proofs.Behind.{one-behind, entries-are, one-longer}
 use Rattle.hv_law_jobs.proofs.OrderLemmas.{number-there}
-use Rattle.hv_law_partitions.proofs.StoodLemmas.{changed-from}
+use Rattle.hv_law_directories.specs.hv_law_partitions.proofs.StoodLemmas.{changed-from}
 use Rattle.hv_law_whole.proofs.OnceLemmas.{Takes, takes-of}
 
 -- ---- what an entry publishes
@@ -22,7 +23,7 @@ abbrev pub WasPublished : State → ℕ → ℕ × ℕ × ℕ → Type 0
 WasPublished s k range = (job : Job) × (numbered s.jobs k ≡ Some job) × (job.published ≡ Some range)
 
 -- it was so before, or its mark is the number of the next transaction
-abbrev Publishes : State → Entry → Type 0
+abbrev pub Publishes : State → Entry → Type 0
 Publishes s event =
     (k : ℕ) (range : ℕ × ℕ × ℕ) → WasPublished (after s event) k range
     → WasPublished s k range ⊎ ((range.2 ≡ length s.transactions + 1) × ((after s event).transactions ≡ s.transactions))
@@ -69,7 +70,7 @@ publishes-one s event number next mark same jobs k range is =
       ]
     ]
 
-publishes-of : (limits : Limits) (s : State) (event : Entry) → JobFits limits s event → Publishes s event
+pub publishes-of : (limits : Limits) (s : State) (event : Entry) → Fits limits s event → Publishes s event
 unfolding acted
 publishes-of limits s (entry.Asked job table partition kind by) fits =
     publishes-asked s (entry.Asked job table partition kind by) (asked_job s.entries table.0 partition kind by) refl refl
@@ -161,11 +162,11 @@ module _ (book : List Entry) (event : Entry) (seen : IsSeen book) (takes : Takes
 
 -- ---- books
 
-seen-all : (limits : Limits) (book more : List Entry) → AllJobsFit limits (state_of book) more → IsSeen book → IsSeen (book ++ more)
+seen-all : (limits : Limits) (book more : List Entry) → AllFit limits (state_of book) more → IsSeen book → IsSeen (book ++ more)
 seen-all limits book [] fit seen = subst IsSeen (sym (append-nil book)) seen
 seen-all limits book (event ∷ more) fit seen =
     let longer : List Entry = book ++ event ∷ [] in
-    let rest : AllJobsFit limits (state_of longer) more = subst (λ s. AllJobsFit limits s more) (sym (one-behind book event)) fit.1 in
+    let rest : AllFit limits (state_of longer) more = subst (λ s. AllFit limits s more) (sym (one-behind book event)) fit.1 in
     subst IsSeen (append_assoc book (event ∷ []) more)
     (seen-all limits longer more rest (seen-next book event seen (takes-of limits (state_of book) event fit.0) (publishes-of limits (state_of book) event fit.0)))
 
@@ -173,7 +174,7 @@ nowhere : {A : Type 0} (n : ℕ) (x : A) → numbered {A = A} [] n ≡ Some x �
 nowhere zero x e = cc
 nowhere (suc n) x e = cc
 
-pub books-seen : (limits : Limits) (book : List Entry) → AllJobsFit limits (state_of []) book → IsSeen book
+pub books-seen : (limits : Limits) (book : List Entry) → AllFit limits (state_of []) book → IsSeen book
 books-seen limits book fit =
     seen-all limits [] book fit (record {
       placed = λ txn t snapshot at taken. absurd (nowhere txn t at);

@@ -18,8 +18,8 @@ use Rattle.hv_law_visible.specs.Snapshots.{IsUndone}
 use Rattle.hv_law_visible.specs.Readers.{IsPast}
 use Rattle.hv_law_visible.proofs.MemberLemmas.{in-map, in-filter, from-filter, in-any}
 use Rattle.hv_law_visible.proofs.TakenLemmas.{all-in}
-use Rattle.hv_law_partitions.specs.Partitions.{id_of, is_of, rows_of, write_in, writes_of, written_in, writes_in, fates_in}
-use Rattle.hv_law_partitions.specs.States.{open_from}
+use Rattle.hv_law_directories.specs.hv_law_partitions.specs.Partitions.{id_of, is_of, rows_of, write_in, writes_of, written_in, writes_in, fates_in}
+use Rattle.hv_law_directories.specs.hv_law_partitions.specs.States.{open_from}
 use Rattle.hv_law_directories.specs.Reading.{Reading}
 use Rattle.hv_law_directories.specs.Directories.{inserted_by, deleted_by}
 use Rattle.hv_law_directories.proofs.RecordLemmas.{inserts-filed, filed-inserts, some-insert, deletes-filed, filed-deletes, some-delete}

@@ -7,9 +7,8 @@ use Rattle.hv_history.specs.declared.entry.Entry.{Entry}
 use Rattle.hv_history.specs.declared.state.Table.{Table}
 use Rattle.hv_history.specs.State as book
 use Rattle.hv_history.specs.State.{State, Job}
-use Rattle.hv_history.specs.Legal.{profile, AllTruthful}
+use Rattle.hv_history.specs.Legal.{profile, AllTruthful, AllFit}
 use Rattle.hv_history.specs.Jobs.{jobs_in}
-use Rattle.hv_history.specs.JobsFit.{AllJobsFit}
 use Rattle.hv_jobs.specs.Covers.{covers}
 use Rattle.hv_jobs.specs.Covered.{covered_names}
 use Rattle.hv_law_jobs.specs.Sound.{AreSoundJobs}
@@ -20,7 +19,7 @@ use Rattle.hv_law_visible.specs.Members.{IsIn}
 abbrev pub CoveredAreListed : Type 0
 CoveredAreListed =
     (entries : List Entry) (number : ℕ) (job : Job) (table : Table) (name : DirName)
-    → AllJobsFit profile book.nothing_yet entries → AllTruthful book.nothing_yet entries
+    → AllFit profile book.nothing_yet entries → AllTruthful book.nothing_yet entries
     → book.numbered (book.state_of entries).jobs number ≡ Some job → book.numbered (book.state_of entries).tables job.table ≡ Some table
     → IsIn name (made_names table.writes (jobs_in (book.state_of entries) job.table job.partition) job.partition) → covers job name ≡ true
     → IsIn name (covered_names (book.state_of entries) job)
@@ -29,7 +28,7 @@ CoveredAreListed =
 abbrev pub ListedAreCovered : Type 0
 ListedAreCovered =
     (entries : List Entry) (number : ℕ) (job : Job) (table : Table) (name : DirName)
-    → AllJobsFit profile book.nothing_yet entries → AllTruthful book.nothing_yet entries
+    → AllFit profile book.nothing_yet entries → AllTruthful book.nothing_yet entries
     → book.numbered (book.state_of entries).jobs number ≡ Some job → book.numbered (book.state_of entries).tables job.table ≡ Some table
     → IsIn name (covered_names (book.state_of entries) job)
     → IsIn name (made_names table.writes (jobs_in (book.state_of entries) job.table job.partition) job.partition) × (covers job name ≡ true)

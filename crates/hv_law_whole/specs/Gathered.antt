@@ -19,7 +19,7 @@ use Rattle.hv_history.specs.Jobs.{is_job_of, pieces_for}
 use Rattle.hv_earlier.specs.Lists as earlier
 use Rattle.hv_law_visible.specs.Visible.{Tree, deltas_chosen, deletes_chosen, visible_rows, by_id}
 use Rattle.hv_law_visible.specs.Snapshots.{list_up_to}
-use Rattle.hv_law_partitions.specs.Partitions.{id_of}
+use Rattle.hv_law_directories.specs.hv_law_partitions.specs.Partitions.{id_of}
 use Rattle.hv_law_made.specs.Made.{delta_recs, base_recs}
 use Rattle.hv_law_made.specs.Entries.{IsAtWork}
 use Rattle.hv_law_directories.specs.Reading.{Reading}

@@ -14,17 +14,16 @@ use Rattle.hv_history.specs.declared.state.Table.{Table}
 use Rattle.hv_history.specs.declared.state.Transaction.{Transaction}
 use Rattle.hv_history.specs.State as book
 use Rattle.hv_history.specs.State.{Job}
-use Rattle.hv_history.specs.Legal.{profile, is_open, is_working, AllTruthful}
+use Rattle.hv_history.specs.Legal.{profile, is_open, is_working, AllTruthful, AllFit}
 use Rattle.hv_history.specs.Jobs.{is_job_of, pieces_for}
-use Rattle.hv_history.specs.JobsFit.{AllJobsFit}
 use Rattle.hv_earlier.specs.Lists as earlier
 use Rattle.hv_law_visible.specs.Members.{IsIn}
 use Rattle.hv_law_visible.specs.History.{Write}
 use Rattle.hv_law_visible.specs.Visible.{Tree, visible_rows, by_id}
 use Rattle.hv_law_visible.specs.Snapshots.{list_up_to}
 use Rattle.hv_law_published.specs.State.{State, IsKept}
-use Rattle.hv_law_partitions.specs.Partitions.{id_of, rows_of, writes_in}
-use Rattle.hv_law_partitions.specs.States.{partition_in}
+use Rattle.hv_law_directories.specs.hv_law_partitions.specs.Partitions.{id_of, rows_of, writes_in}
+use Rattle.hv_law_directories.specs.hv_law_partitions.specs.States.{partition_in}
 use Rattle.hv_law_directories.specs.Reading.{Reading, IsReading}
 use Rattle.hv_law_directories.specs.Directories.{AreDirectories}
 use Rattle.hv_law_made.specs.Made.{rows_up_to}
@@ -35,7 +34,7 @@ use Rattle.hv_law_whole.specs.Whole.{published_in}
 -- live tables.
 pub record AreOfBook (read : Reading) (entries : List Entry) (table : Table) (partition : List ℕ) (files : disk.Tree) (tree : Tree Found) : Type 0 where
   pub reads : IsReading read
-  pub fit : AllJobsFit profile book.nothing_yet entries
+  pub fit : AllFit profile book.nothing_yet entries
   pub few : (book.state_of entries).entries < write_end
   pub stand : Standing (book.state_of entries) files
   pub here : book.numbered (book.state_of entries).tables table.info.table.0 ≡ Some table
@@ -110,5 +109,5 @@ AreDeletedOnce (w ∷ writes) = AllByRecursion (DeletesOthers w) writes × AreDe
 -- What a job gathers of delete deltas is then all that its range says, each record once.
 abbrev pub RowsGoOnce : Type 0
 RowsGoOnce =
-    (entries : List Entry) (table : ℕ) (partition : List ℕ) → AllJobsFit profile book.nothing_yet entries → AllTruthful book.nothing_yet entries
+    (entries : List Entry) (table : ℕ) (partition : List ℕ) → AllFit profile book.nothing_yet entries → AllTruthful book.nothing_yet entries
     → AreDeletedOnce (writes_in (book.state_of entries) table partition)

@@ -21,8 +21,8 @@ use Rattle.hv_law_visible.specs.Members.{IsIn}
 use Rattle.hv_law_visible.specs.Stands.{Stands}
 use Rattle.hv_law_visible.specs.Snapshots.{IsUndone}
 use Rattle.hv_law_visible.specs.Readers.{IsPast}
-use Rattle.hv_law_partitions.specs.Partitions.{id_of, writes_in, fates_in}
-use Rattle.hv_law_partitions.specs.States.{open_from}
+use Rattle.hv_law_directories.specs.hv_law_partitions.specs.Partitions.{id_of, writes_in, fates_in}
+use Rattle.hv_law_directories.specs.hv_law_partitions.specs.States.{open_from}
 use Rattle.hv_law_directories.specs.Reading.{Reading, IsReading}
 use Rattle.hv_law_directories.specs.Directories.{AreDirectories}
 

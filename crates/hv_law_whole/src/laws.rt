@@ -1,4 +1,5 @@
 ghost use Rattle.hv_law_whole.specs.Covered.{CoveredAreListed, ListedAreCovered, ListedOnce};
+ghost use Rattle.hv_law_whole.specs.Finals.{FinalsAreSaid};
 ghost use Rattle.hv_law_whole.specs.Gathered.{MinorJobsGather, MajorJobsGather};
 ghost use Rattle.hv_law_whole.specs.Whole.{FilesAreWhole};
 ghost use Rattle.hv_law_whole.specs.Shown.{PartitionsAreKept, ReadersAreShown, TheEndIsShown, JobsReadUpToMark, JobsAreShown, RowsGoOnce};
@@ -61,4 +62,9 @@ pub fn listed_once()
 /// What a major job at work reads of a bucket is what its base is to have there.
 pub fn major_jobs_gather()
     ensures law { MajorJobsGather }
+{}
+
+/// The directories that a job is to make, by what commits say of its range, are those that its writes make.
+pub fn finals_are_said()
+    ensures law { FinalsAreSaid }
 {}

@@ -1,5 +1,5 @@
 -- The order of ORDER BY is total and tells all rows apart; the first rows of it need the first rows alone.
-use Rattle.std.proofs.Common.{◌≡◌, ℕ, zero, suc, ◌+◌, ◌-◌, ◌<◌, ◌≤◌, Bool, not, true≢false, IsTrue, subst, get_or, arith, length, length-take, length-append, length-take-le, true, false, List, [], ◌∷◌, ◌++◌, take, drop, ltb, ltb-true, ltb-false, refl, sym, ap, ◌∙◌, IsPermutation, IsSorted}
+use Rattle.std.proofs.Common.{◌≡◌, ℕ, zero, suc, ◌+◌, ◌-◌, ◌<◌, ◌≤◌, Bool, not, true≢false, IsTrue, subst, get_or, arith, length, length-take, length-append, length-take-le, true, false, List, [], ◌∷◌, ◌++◌, take, drop, ltb, ltb-true, ltb-false, Option, None, Some, refl, sym, ap, ◌∙◌, IsPermutation, IsSorted}
 use Rattle.std.proofs.Math.Seq.{get_or-append_seam}
 use Rattle.std.proofs.lemmas.List.{get_or_append_left, get_or_default, take-append-le, take-append-drop}
 use Rattle.std.specs.declared.cmp.Ordering.{Ordering}
@@ -15,7 +15,8 @@ use Rattle.hv_value.specs.declared.row.Row.{Row}
 use Rattle.hv_typing.specs.declared.tree.SortKey.{SortKey}
 use Rattle.hv_base.specs.Sorting.{placed_by, put_by, sorted_by}
 use Rattle.hv_typing.specs.Order.{value_at, turned, key_cmp, order_cmp, ordered}
-use Rattle.hv_order.specs.First.{first_ordered, IsBounded}
+use Rattle.hv_order.specs.declared.Front.{Front}
+use Rattle.hv_order.specs.First.{first_ordered, IsBounded, IsEnough}
 use Rattle.hv_base.proofs.SortingLaws.{sorted_is, sorted-sorted_by, sorted-permuted}
 use Rattle.std.proofs.lemmas.List.Sorted.{IsPermutation-refl, IsPermutation-sym, IsPermutation-to_front, IsPermutation-append_comm}
 
@@ -174,6 +175,19 @@ pub not_wanted : (keys : List SortKey) (count : ℕ) (row : Row) (kept all : Lis
     → first_ordered keys count kept ≡ first_ordered keys count all → first_ordered keys count kept ≡ first_ordered keys count (all ++ row ∷ [])
 not_wanted keys count row kept all changes_nothing enough =
     sym changes_nothing ∙ take-sorted (order_cmp keys) count row kept all enough ∙ put_last keys count row all
+
+-- the first of two lists need the first of each alone
+firsts_both : (keys : List SortKey) (n : ℕ) (rows more all others : List Row) → first_ordered keys n rows ≡ first_ordered keys n all
+    → first_ordered keys n more ≡ first_ordered keys n others → first_ordered keys n (rows ++ more) ≡ first_ordered keys n (all ++ others)
+firsts_both keys n rows more all others one two =
+    takes_same (order_cmp keys) n rows more others two
+    ∙ ap (take n) (sorted-permuted (order_total keys) (order_exact keys) (rows ++ others) (others ++ rows) (IsPermutation-append_comm rows others))
+    ∙ takes_same (order_cmp keys) n others rows all one
+    ∙ ap (take n) (sorted-permuted (order_total keys) (order_exact keys) (others ++ all) (all ++ others) (IsPermutation-append_comm others all))
+
+pub enough_both : (front : Option Front) (rows more all others : List Row) → IsEnough front rows all → IsEnough front more others → IsEnough front (rows ++ more) (all ++ others)
+enough_both None rows more all others one two = λ i. one i ++ two i
+enough_both (Some front) rows more all others one two = firsts_both front.keys.now front.count rows more all others one two
 
 -- rows that stay where they are
 pub ruleset stays = (IsPermutation-refl)

@@ -1,6 +1,7 @@
 //! ORDER BY and LIMIT over rows in memory.
 #![tactic(auto)]
 
+mod parts;
 mod ranks;
 
 ghost use Rattle.std.specs.Prelude.{◌≡◌, ◌∷◌, ◌++◌, [], ◌<◌, ◌≤◌, false, length, List, IsTrue, IsPermutation, OnOk, IfOk, IfSome};
@@ -11,6 +12,7 @@ ghost use Rattle.hv_value.specs.Order.{value_cmp, row_cmp};
 ghost use Rattle.hv_typing.specs.Order.{key_cmp, order_cmp, ordered, limited};
 ghost use Rattle.hv_order.specs.First.{first_ordered, IsBounded, IsEnough, IsSound};
 
+pub use crate::parts::ordered_rows_on;
 use crate::ranks::Ranks;
 use hv_base::{NoMemory, Text};
 use hv_typing::SortKey;

@@ -91,8 +91,8 @@ fn alike(left: &[u8], right: &[u8], most: usize) -> usize {
     most
 }
 
-fn shared_at(rows: &[Row], place: usize) -> usize {
-    let sample = first_text(rows, place);
+// How many bytes the texts there all begin with, as one of them does.
+fn shared_with(sample: &[u8], rows: &[Row], place: usize) -> usize {
     let mut shared = sample.len();
     for row in rows {
         if shared == 0 {
@@ -123,20 +123,42 @@ fn two_keys(keys: &[SortKey]) -> (SortKey, SortKey) {
     }
 }
 
-fn place_of(key: SortKey, rows: &[Row]) -> Place {
+fn place_of(key: SortKey, rows: &[Row], part: &[Row]) -> Place {
+    let place = key.place as usize;
     Place {
         key,
-        shared: shared_at(rows, key.place as usize),
+        shared: shared_with(first_text(rows, place), part, place),
+    }
+}
+
+// The place with no more shared bytes than of the other.
+fn less_shared(place: Place, other: Place) -> Place {
+    Place {
+        key: place.key,
+        shared: place.shared.min(other.shared),
     }
 }
 
 impl Ranks {
     /// For rows under these keys.
     pub(crate) fn of(keys: &[SortKey], rows: &[Row]) -> Ranks {
+        Ranks::of_part(keys, rows, rows)
+    }
+
+    /// For a part of these rows.
+    pub(crate) fn of_part(keys: &[SortKey], rows: &[Row], part: &[Row]) -> Ranks {
         let (first, second) = two_keys(keys);
         Ranks {
-            first: place_of(first, rows),
-            second: place_of(second, rows),
+            first: place_of(first, rows, part),
+            second: place_of(second, rows, part),
+        }
+    }
+
+    /// For the rows of both.
+    pub(crate) fn least(self, other: Ranks) -> Ranks {
+        Ranks {
+            first: less_shared(self.first, other.first),
+            second: less_shared(self.second, other.second),
         }
     }
 

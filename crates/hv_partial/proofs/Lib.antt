@@ -4,3 +4,4 @@ pub mod LiftLaws
 pub mod KeptLaws
 pub mod KeyLaws
 pub mod Ranks
+pub mod MergeLaws

@@ -6,6 +6,7 @@ mod fault;
 mod key;
 mod lifting;
 mod nodes;
+mod parts;
 mod same;
 mod select;
 mod shown;
@@ -14,6 +15,7 @@ mod summed;
 mod values;
 
 pub use key::{SeenKey, seen_key};
+pub use parts::{entries_by, merged_by, summed_part, summed_whole};
 pub use same::order_of;
 pub use select::{Lifted, lift};
 pub use shown::shown_of;

@@ -3,10 +3,11 @@ ghost use Rattle.hv_expr.specs.Evaluation.{value_of};
 ghost use Rattle.hv_expr.specs.Values.{taken_or_null};
 ghost use Rattle.hv_seen.specs.Seen.{seen_value};
 ghost use Rattle.hv_eval.specs.Frames.{frame_values};
+ghost use Rattle.hv_eval.specs.Accumulating.{merged};
 ghost use Rattle.hv_partial.specs.Sums.{aggregate_of, function_of, added, one_more, sum_over};
 
 use hv_base::{Boxed, NoMemory};
-use hv_eval::{Frame, Scope, eval_at, seen_at, start, step};
+use hv_eval::{Frame, Scope, eval_at, merge, seen_at, start, step};
 use hv_expr::{Aggregate, TypedExpr};
 use hv_seen::{Seen, null, number, of_big, of_bool, taken, view};
 use hv_value::SqlType;
@@ -109,6 +110,17 @@ impl Sum {
             Sum::Computed(numeric, argument) => {
                 computed_more(alloc, *numeric, argument.get(), kept, row)
             }
+        }
+    }
+
+    /// The sum over the rows of both.
+    pub(crate) fn both<'a>(&self, kept: &Seen<'a>, other: &Seen<'a>) -> Seen<'a>
+        ensures { seen_value result ≡ merged (function_of self.now) (seen_value kept.now) (seen_value other.now) }
+    {
+        match self {
+            Sum::Rows => merge(Aggregate::Count, kept, other),
+            Sum::Column(function, _, _) => merge(*function, kept, other),
+            Sum::Computed(numeric, _) => merge(numeric.aggregate(), kept, other),
         }
     }
 }

@@ -1,10 +1,11 @@
-ghost use Rattle.std.specs.Prelude.{◌≡◌, [], ◌∷◌, map, option_map, IfOk, OnOk};
+ghost use Rattle.std.specs.Prelude.{◌≡◌, ◌++◌, [], ◌∷◌, map, option_map, IfOk, OnOk};
 ghost use Rattle.hv_typing.specs.Grouped.{groups};
 ghost use Rattle.hv_typing.specs.Rows.{key_of, same_row};
 ghost use Rattle.hv_seen.specs.Seen.{seen_value};
 ghost use Rattle.hv_eval.specs.Frames.{frame_values, frames_values};
 ghost use Rattle.hv_partial.specs.Sums.{sums_over};
 ghost use Rattle.hv_partial.specs.Kept.{each_more, first_or, summed, summed_more};
+ghost use Rattle.hv_partial.specs.Merged.{each_merged, or_first, summed_merged};
 
 use crate::key::{SeenKey, seen_key};
 use crate::sum::Sum;
@@ -78,17 +79,22 @@ fn first_or<'a>(first: &Option<Frame<'a>>, row: &Frame<'a>) -> Frame<'a>
 }
 
 impl<'a> Summed<'a> {
-    // A group of no rows.
-    fn new(alloc: Global, sums: &'a [Sum]) -> Result<Summed<'a>, NoMemory>
+    /// A group of no rows.
+    pub(crate) fn new(alloc: Global, sums: &'a [Sum]) -> Result<Summed<'a>, NoMemory>
         ensures { IfOk result (λ kept. kept ≡ summed sums.now []) }
     {
         let sums = begun(alloc, sums)?;
         Ok(Summed { first: None, sums })
     }
 
-    // The group with one row more.
+    /// The group with one row more.
     #[tactic(auto, unfolding(crate::specs::Kept::summed_more))]
-    fn add(&mut self, alloc: Global, sums: &'a [Sum], row: &Frame<'a>) -> Result<(), NoMemory>
+    pub(crate) fn add(
+        &mut self,
+        alloc: Global,
+        sums: &'a [Sum],
+        row: &Frame<'a>,
+    ) -> Result<(), NoMemory>
         ensures { OnOk result (self.new ≡ summed_more sums.now self.old (frame_values row.now)) }
     {
         each_more(alloc, sums, &mut self.sums, row)?;
@@ -96,6 +102,66 @@ impl<'a> Summed<'a> {
         Ok(())
     }
 }
+
+// ---- the rows of two groups
+
+// The sums of both.
+fn add_merged<'a>(
+    sums: &[Sum],
+    kept: &[Seen<'a>],
+    others: &[Seen<'a>],
+    made: &mut Vec<Seen<'a>>,
+) -> Result<(), NoMemory>
+    ensures { OnOk result (map seen_value made.new.items ≡ map seen_value made.old.items ++ each_merged sums.now (map seen_value kept.now) (map seen_value others.now)) }
+{
+    let [sum, sums @ ..] = sums else {
+        return Ok(());
+    };
+    let [one, kept @ ..] = kept else {
+        return Ok(());
+    };
+    let [other, others @ ..] = others else {
+        return Ok(());
+    };
+    made.push(sum.both(one, other))?;
+    add_merged(sums, kept, others, made)
+}
+
+// The first row of both.
+fn first_of<'a>(first: &Option<Frame<'a>>, later: &Option<Frame<'a>>) -> Option<Frame<'a>>
+    ensures { option_map frame_values result ≡ or_first (option_map frame_values first.now) (option_map frame_values later.now) }
+{
+    match first {
+        None => *later,
+        Some(first) => Some(*first),
+    }
+}
+
+impl<'a> Summed<'a> {
+    /// The group with the rows of another behind its own.
+    #[tactic(auto, unfolding(crate::specs::Merged::summed_merged))]
+    pub(crate) fn merge(
+        &mut self,
+        alloc: Global,
+        sums: &[Sum],
+        other: &Summed<'a>,
+    ) -> Result<(), NoMemory>
+        ensures { OnOk result (self.new ≡ summed_merged sums.now self.old other.now) }
+    {
+        let mut merged = Vec::with_capacity(alloc, sums.len())?;
+        add_merged(
+            sums,
+            self.sums.as_slice(),
+            other.sums.as_slice(),
+            &mut merged,
+        )?;
+        self.sums = merged;
+        self.first = first_of(&self.first, &other.first);
+        Ok(())
+    }
+}
+
+// ---- the sums as values
 
 // Puts the values of sums in place of what was there.
 fn put_values(alloc: Global, sums: &[Seen], values: &mut Vec<Value>) -> Result<(), NoMemory>
@@ -124,12 +190,12 @@ impl<'a> Summed<'a> {
     }
 }
 
-// The keys of GROUP BY, and what is kept of each group.
+/// The keys of GROUP BY, and what is kept of each group.
 #[derive(Drop)]
-struct Summing<'a> {
-    first: &'a TypedExpr,
-    more: &'a [TypedExpr],
-    sums: &'a [Sum],
+pub(crate) struct Summing<'a> {
+    pub first: &'a TypedExpr,
+    pub more: &'a [TypedExpr],
+    pub sums: &'a [Sum],
 }
 
 impl<'a> GroupFold<Frame<'a>, SeenKey<'a>, Summed<'a>> for Summing<'a> {

@@ -6,6 +6,7 @@ ghost use Rattle.hv_paths.specs.Paths.{path_in, journal_path, lock_path, tables_
 use crate::names::{outer_folders, table_name};
 use hv_base::{NoMemory, TableId, Text};
 use std::alloc::Global;
+use std::path::Path;
 
 /// The path of a name in a folder.
 pub fn path_in(alloc: Global, folder: &str, name: &str) -> Result<String, NoMemory>
@@ -69,4 +70,20 @@ pub fn partition_path(
 {
     let names = outer_folders(alloc, table, partition.as_str())?;
     path_below(alloc, tables, names.as_slice())
+}
+
+/// The folder in which the last name of a path stands.
+pub fn outer_of(path: &str) -> &str {
+    match path.rsplit_once('/') {
+        Some((outer, _)) => outer,
+        None => path,
+    }
+}
+
+/// The path of the folder above, which for a lone name is the working folder.
+pub fn above(path: &str) -> &str {
+    match Path::new(path).parent() {
+        Some(above) if !above.as_str().is_empty() => above.as_str(),
+        _ => ".",
+    }
 }

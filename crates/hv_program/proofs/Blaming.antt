@@ -24,7 +24,8 @@ use Rattle.hv_program.specs.Stops.{stop_of, status_of_stop, Blames, IsShutFor, S
 use Rattle.hv_program.specs.Headline.{Outside}
 use Rattle.hv_program.specs.Refused.{is_one_of, Refuses}
 use Rattle.hv_program.specs.Serving.{ran_status, BlamesOf, IsSaid, IsSaidOrNot}
-use Rattle.hv_program.specs.Causes.{Counts, HasCauses, IsFaultless, Completes}
+use Rattle.hv_program.specs.Causes.{Counts, FailsStore, HasCauses, IsFaultless, Completes}
+use Rattle.hv_program.specs.Change.{Change, from_to}
 use Rattle.hv_program.proofs.Refusing.{keep, split}
 
 -- ---- a count that rose
@@ -91,66 +92,69 @@ hard-run {D = D} hard shelf house now ran status last status_is last_is over sta
     (subst (λ (d : D). Rose (hard d) (hard now.house.shelf)) opened (hard-ran hard now ran shut kept (sym status_is ∙ e)))
 
 -- an opening did
-pub hard-store : (status first last : ℕ) (why : BootFault) → why ≡ boot.Store → (IsBootStore why → Rose first last) → status ≡ 5 → Rose first last
-hard-store status first last why same rose e = rose (subst IsBootStore (sym same) tt)
+pub hard-store : (status first last : ℕ) (told told' : Option Store) (why : BootFault) → why ≡ boot.Store
+    → (IsBootStore why → FailsStore first last (from_to told told')) → status ≡ 5 → FailsStore first last (from_to told told')
+hard-store status first last told told' why same fails e = fails (subst IsBootStore (sym same) tt)
 
-pub hard-memory : (status first last : ℕ) → status ≡ 7 → status ≡ 5 → Rose first last
-hard-memory status first last is e = absurd (omega (arith, is, e))
+pub hard-memory : (status first last : ℕ) (told told' : Option Store) → status ≡ 7 → status ≡ 5 → FailsStore first last (from_to told told')
+hard-memory status first last told told' is e = absurd (omega (arith, is, e))
 
-pub hard-said : (status wanted first last : ℕ) (line : List ℕ) (a b : Option (List ℕ)) (sink sink' : ℕ) → (wanted ≡ 5 → ⊥) → IsSaid wanted line a b sink sink' status
-    → status ≡ 5 → Rose first last
-hard-said status wanted first last line a b sink sink' not_it (inl said) e = absurd (not_it (sym said.0 ∙ e))
-hard-said status wanted first last line a b sink sink' not_it (inr cut) e = absurd (omega (arith, cut.0, e))
+pub hard-said : (status wanted first last : ℕ) (told told' : Option Store) (line : List ℕ) (a b : Option (List ℕ)) (sink sink' : ℕ) → (wanted ≡ 5 → ⊥)
+    → IsSaid wanted line a b sink sink' status → status ≡ 5 → FailsStore first last (from_to told told')
+hard-said status wanted first last told told' line a b sink sink' not_it (inl said) e = absurd (not_it (sym said.0 ∙ e))
+hard-said status wanted first last told told' line a b sink sink' not_it (inr cut) e = absurd (omega (arith, cut.0, e))
 
-pub hard-said-or-not : (status wanted first last : ℕ) (line : List ℕ) (a b : Option (List ℕ)) (sink sink' : ℕ) → (wanted ≡ 5 → ⊥)
-    → IsSaidOrNot wanted line a b sink sink' status → status ≡ 5 → Rose first last
-hard-said-or-not status wanted first last line a b sink sink' not_it (inl said) e = hard-said status wanted first last line a b sink sink' not_it said e
-hard-said-or-not status wanted first last line a b sink sink' not_it (inr unsaid) e = absurd (omega (arith, unsaid.0, e))
+pub hard-said-or-not : (status wanted first last : ℕ) (told told' : Option Store) (line : List ℕ) (a b : Option (List ℕ)) (sink sink' : ℕ) → (wanted ≡ 5 → ⊥)
+    → IsSaidOrNot wanted line a b sink sink' status → status ≡ 5 → FailsStore first last (from_to told told')
+hard-said-or-not status wanted first last told told' line a b sink sink' not_it (inl said) e =
+    hard-said status wanted first last told told' line a b sink sink' not_it said e
+hard-said-or-not status wanted first last told told' line a b sink sink' not_it (inr unsaid) e = absurd (omega (arith, unsaid.0, e))
 
 -- ---- the whole
 
-causes-none : (before now : Counts) (n : ℕ) → (n ≡ 3 → ⊥) → (n ≡ 4 → ⊥) → (n ≡ 5 → ⊥) → HasCauses before now n
-causes-none before now n three four five = record { source = λ e. absurd (three e); sink = λ e. absurd (four e); store = λ e. absurd (five e); hard = λ e. absurd (five e) }
+causes-none : (before now : Counts) (stores : Change (Option Store)) (n : ℕ) → (n ≡ 3 → ⊥) → (n ≡ 4 → ⊥) → (n ≡ 5 → ⊥) → HasCauses before now stores n
+causes-none before now stores n three four five = record { source = λ e. absurd (three e); sink = λ e. absurd (four e); store = λ e. absurd (five e); hard = λ e. absurd (five e) }
 
-causes-cut : (before now : Counts) (n : ℕ) → n ≡ 4 → Rose before.sink now.sink → HasCauses before now n
-causes-cut before now n is rose = record {
+causes-cut : (before now : Counts) (stores : Change (Option Store)) (n : ℕ) → n ≡ 4 → Rose before.sink now.sink → HasCauses before now stores n
+causes-cut before now stores n is rose = record {
   source = λ e. absurd (omega (arith, is, e));
   sink = λ e. rose;
   store = λ e. absurd (omega (arith, is, e));
   hard = λ e. absurd (omega (arith, is, e));
 }
 
-pub causes-said : (before now : Counts) (status wanted : ℕ) (line : List ℕ) (a b : Option (List ℕ)) → (wanted ≡ 3 → ⊥) → (wanted ≡ 4 → ⊥) → (wanted ≡ 5 → ⊥)
-    → IsSaid wanted line a b before.sink now.sink status → HasCauses before now status
-causes-said before now status wanted line a b three four five (inl said) =
-    causes-none before now status (λ e. three (sym said.0 ∙ e)) (λ e. four (sym said.0 ∙ e)) (λ e. five (sym said.0 ∙ e))
-causes-said before now status wanted line a b three four five (inr cut) = causes-cut before now status cut.0 cut.1.cause
+pub causes-said : (before now : Counts) (stores : Change (Option Store)) (status wanted : ℕ) (line : List ℕ) (a b : Option (List ℕ)) → (wanted ≡ 3 → ⊥) → (wanted ≡ 4 → ⊥) → (wanted ≡ 5 → ⊥)
+    → IsSaid wanted line a b before.sink now.sink status → HasCauses before now stores status
+causes-said before now stores status wanted line a b three four five (inl said) =
+    causes-none before now stores status (λ e. three (sym said.0 ∙ e)) (λ e. four (sym said.0 ∙ e)) (λ e. five (sym said.0 ∙ e))
+causes-said before now stores status wanted line a b three four five (inr cut) = causes-cut before now stores status cut.0 cut.1.cause
 
-pub causes-memory : (before now : Counts) (status : ℕ) → status ≡ 7 → HasCauses before now status
-causes-memory before now status is = causes-none before now status (λ e. omega (arith, is, e)) (λ e. omega (arith, is, e)) (λ e. omega (arith, is, e))
+pub causes-memory : (before now : Counts) (stores : Change (Option Store)) (status : ℕ) → status ≡ 7 → HasCauses before now stores status
+causes-memory before now stores status is = causes-none before now stores status (λ e. omega (arith, is, e)) (λ e. omega (arith, is, e)) (λ e. omega (arith, is, e))
 
-pub causes-words : (before now : Counts) (status : ℕ) (line : List ℕ) (a b : Option (List ℕ)) → IsSaid 2 line a b before.sink now.sink status → HasCauses before now status
-causes-words before now status line a b said = causes-said before now status 2 line a b (λ e. omega (arith, e)) (λ e. omega (arith, e)) (λ e. omega (arith, e)) said
+pub causes-words : (before now : Counts) (stores : Change (Option Store)) (status : ℕ) (line : List ℕ) (a b : Option (List ℕ)) → IsSaid 2 line a b before.sink now.sink status → HasCauses before now stores status
+causes-words before now stores status line a b said = causes-said before now stores status 2 line a b (λ e. omega (arith, e)) (λ e. omega (arith, e)) (λ e. omega (arith, e)) said
 
-pub causes-script : (before now : Counts) (status : ℕ) (line : List ℕ) (a b : Option (List ℕ)) → IsSaidOrNot 8 line a b before.sink now.sink status → HasCauses before now status
-causes-script before now status line a b (inl said) = causes-said before now status 8 line a b (λ e. omega (arith, e)) (λ e. omega (arith, e)) (λ e. omega (arith, e)) said
-causes-script before now status line a b (inr unsaid) = causes-memory before now status unsaid.0
+pub causes-script : (before now : Counts) (stores : Change (Option Store)) (status : ℕ) (line : List ℕ) (a b : Option (List ℕ)) → IsSaidOrNot 8 line a b before.sink now.sink status → HasCauses before now stores status
+causes-script before now stores status line a b (inl said) = causes-said before now stores status 8 line a b (λ e. omega (arith, e)) (λ e. omega (arith, e)) (λ e. omega (arith, e)) said
+causes-script before now stores status line a b (inr unsaid) = causes-memory before now stores status unsaid.0
 
-pub causes-read : (before now : Counts) (status : ℕ) (why : Stop) → status ≡ status_of_stop why → IsTrue (is_one_of (3 ∷ 7 ∷ []) (status_of_stop why))
-    → (why ≡ stop.Source → Rose before.source now.source) → HasCauses before now status
-causes-read before now status stop.Source is h rose = record {
+pub causes-read : (before now : Counts) (stores : Change (Option Store)) (status : ℕ) (why : Stop) → status ≡ status_of_stop why → IsTrue (is_one_of (3 ∷ 7 ∷ []) (status_of_stop why))
+    → (why ≡ stop.Source → Rose before.source now.source) → HasCauses before now stores status
+causes-read before now stores status stop.Source is h rose = record {
   source = λ e. rose refl;
   sink = λ e. absurd (omega (arith, is, e));
   store = λ e. absurd (omega (arith, is, e));
   hard = λ e. absurd (omega (arith, is, e));
 }
-causes-read before now status stop.Sink is h rose = cc
-causes-read before now status stop.Store is h rose = cc
-causes-read before now status stop.NoMemory is h rose = causes-memory before now status is
+causes-read before now stores status stop.Sink is h rose = cc
+causes-read before now stores status stop.Store is h rose = cc
+causes-read before now stores status stop.NoMemory is h rose = causes-memory before now stores status is
 
-pub causes-served : (before now : Counts) (status : ℕ) → IsTrue (is_one_of (0 ∷ 1 ∷ 4 ∷ 5 ∷ 6 ∷ 7 ∷ 9 ∷ []) status) → BlamesOf status before.sink now.sink before.store now.store
-    → (status ≡ 5 → Rose before.hard now.hard) → HasCauses before now status
-causes-served before now status only h hard = record {
+pub causes-served : (before now : Counts) (told told' : Option Store) (status : ℕ) → IsTrue (is_one_of (0 ∷ 1 ∷ 4 ∷ 5 ∷ 6 ∷ 7 ∷ 9 ∷ []) status)
+    → BlamesOf status before.sink now.sink before.store now.store
+    → (status ≡ 5 → FailsStore before.hard now.hard (from_to told told')) → HasCauses before now (from_to told told') status
+causes-served before now told told' status only h hard = record {
   source = λ e. absurd (let wrong : IsTrue (is_one_of (0 ∷ 1 ∷ 4 ∷ 5 ∷ 6 ∷ 7 ∷ 9 ∷ []) 3) = subst (λ n. IsTrue (is_one_of (0 ∷ 1 ∷ 4 ∷ 5 ∷ 6 ∷ 7 ∷ 9 ∷ []) n)) e only in cc);
   sink = h.sink_failed;
   store = h.store_failed;
@@ -186,19 +190,19 @@ some-none (Some command) is e = cc
 not-both : (o : Option ℕ) (line : ℕ) → o ≡ None → o ≡ Some line → ⊥
 not-both o line none some = let wrong : None ≡ Some line = sym none ∙ some in cc
 
-completes-told : (words : List (List ℕ)) (script : List ℕ) (sink : Option (List ℕ)) (s : Store) (after : Outside) (counts counts' : Counts) (status : ℕ)
-    → Refuses words (record { source = Some script; sink = sink; store = Some s }) after status → HasCauses counts counts' status
+completes-told : (words : List (List ℕ)) (script : List ℕ) (sink : Option (List ℕ)) (s : Store) (after : Outside) (counts counts' : Counts) (stores : Change (Option Store)) (status : ℕ)
+    → Refuses words (record { source = Some script; sink = sink; store = Some s }) after status → HasCauses counts counts' stores status
     → IsSome (run_of words) → IsFaultless counts counts' → refused_at script ≡ None → CanOpen profile s
     → IsTrue (is_one_of (0 ∷ 1 ∷ 7 ∷ []) status)
-completes-told words script sink s after counts counts' status h causes some ok fine small =
+completes-told words script sink s after counts counts' stores status h causes some ok fine small =
     the-rest status (λ e. some-none (run_of words) some (h.bad_words e).words_are) (λ e. ok.source (causes.source e)) (λ e. ok.sink (causes.sink e)) (λ e. ok.store (causes.store e))
     (λ e. (h.bad_journal e).shut small.0 small.1.reads) (λ e. not-both (refused_at script) (h.refused_script e).line fine (h.refused_script e).refused)
     (λ e. omega (arith, (h.full_journal e).shut small.0 small.1.reads, small.1.room)) h.only
 
-pub completes : (words : List (List ℕ)) (source sink : Option (List ℕ)) (told : Option Store) (after : Outside) (counts counts' : Counts) (status : ℕ)
-    → Refuses words (record { source = source; sink = sink; store = told }) after status → HasCauses counts counts' status
+pub completes : (words : List (List ℕ)) (source sink : Option (List ℕ)) (told : Option Store) (after : Outside) (counts counts' : Counts) (stores : Change (Option Store)) (status : ℕ)
+    → Refuses words (record { source = source; sink = sink; store = told }) after status → HasCauses counts counts' stores status
     → Completes words (record { source = source; sink = sink; store = told }) counts counts' status
-completes words None sink told after counts counts' status h causes = λ some ok. tt
-completes words (Some script) sink None after counts counts' status h causes = λ some ok fine. tt
-completes words (Some script) sink (Some s) after counts counts' status h causes = λ some ok fine small.
-    completes-told words script sink s after counts counts' status h causes some ok fine small
+completes words None sink told after counts counts' stores status h causes = λ some ok. tt
+completes words (Some script) sink None after counts counts' stores status h causes = λ some ok fine. tt
+completes words (Some script) sink (Some s) after counts counts' stores status h causes = λ some ok fine small.
+    completes-told words script sink s after counts counts' stores status h causes some ok fine small

@@ -5,9 +5,10 @@ use Rattle.hv_shelf.specs.Disk.{Store}
 use Rattle.hv_history.specs.declared.entry.Entry.{Entry}
 use Rattle.hv_history.specs.State.{state_of}
 use Rattle.hv_history.specs.Legal.{load, IsLegal, profile}
-use Rattle.hv_history.specs.Journal.{Reads, IsJournal}
+use Rattle.hv_history.specs.Journal.{Reads}
 use Rattle.hv_base.specs.Sink.{Gains, GainsPart}
 use Rattle.hv_journal.specs.Appending.{Holds, KeepsTree}
+use Rattle.hv_law_made.specs.Opening.{whole_jobs}
 use Rattle.hv_script.specs.declared.actions.Action.{Action}
 use Rattle.hv_session.specs.hv_steps.specs.hv_table_reader.specs.hv_acts.specs.hv_telling.specs.hv_house.specs.declared.house.House.{House}
 use Rattle.hv_session.specs.hv_steps.specs.hv_table_reader.specs.hv_acts.specs.hv_telling.specs.hv_house.specs.House.{entries_of, IsFaithful}
@@ -16,13 +17,14 @@ use Rattle.hv_session.specs.hv_steps.specs.hv_table_reader.specs.hv_acts.specs.h
 use Rattle.hv_session.specs.hv_steps.specs.hv_table_reader.specs.hv_acts.specs.hv_telling.specs.hv_house.specs.declared.fault.HouseFault.TheVariants as fault
 use Rattle.hv_session.specs.hv_steps.specs.hv_table_reader.specs.hv_acts.specs.hv_telling.specs.hv_house.specs.declared.boot.BootFault.{BootFault}
 use Rattle.hv_session.specs.hv_steps.specs.hv_table_reader.specs.hv_acts.specs.hv_telling.specs.hv_house.specs.declared.boot.BootFault.TheVariants as boot
-use Rattle.hv_session.specs.hv_steps.specs.hv_table_reader.specs.hv_acts.specs.hv_telling.specs.hv_house.specs.Booting.{opening_of, opening_entries, OpensTo, Opens, StopsOpening, IsCutOpening, NotesWithRoom, StopsWithRoom, HasFullBook}
+use Rattle.hv_session.specs.hv_steps.specs.hv_table_reader.specs.hv_acts.specs.hv_telling.specs.hv_house.specs.Booting.{opening_of, opening_with, opening_entries, OpensTo, Opens, IsIdle, StopsOpening, IsCutOpening, IsOpenStill, StopsOpen, KeepsIdle, HasFullBook}
 use Rattle.hv_recovery.proofs.Books.{is_once as one-journal}
 use Rattle.hv_session.specs.hv_steps.specs.hv_table_reader.specs.hv_acts.specs.hv_telling.specs.hv_house.proofs.Boots.{reads-journal}
 use Rattle.hv_recovery.specs.Recovery.{IsJournalOf}
 use Rattle.hv_session.specs.hv_steps.specs.hv_table_reader.specs.hv_acts.specs.hv_telling.specs.Telling.{IsWhole, IsToldHouse, OpensLater}
 use Rattle.hv_session.specs.hv_steps.specs.hv_table_reader.specs.hv_acts.specs.hv_telling.proofs.Told.{told-stays, whole-shown, found-some}
 use Rattle.hv_session.specs.hv_steps.specs.hv_table_reader.specs.hv_acts.specs.hv_telling.proofs.Opening.{opened-is-told}
+use Rattle.hv_session.specs.hv_steps.specs.hv_table_reader.specs.hv_acts.specs.hv_telling.proofs.Opens.{faithful-is-left}
 use Rattle.hv_program.specs.declared.stop.Stop.{Stop}
 use Rattle.hv_program.specs.declared.stop.Stop.TheVariants as stop
 use Rattle.hv_program.specs.Stops.{status_of_stop}
@@ -32,7 +34,7 @@ use Rattle.hv_program.specs.Doing.{Standing}
 use Rattle.hv_program.specs.Own.{Grows}
 use Rattle.hv_program.specs.Running.{PrintsAll, CutsOff, StopsIn, Halts, HasAll}
 use Rattle.hv_program.proofs.OwnEntries.{grows-wider}
-use Rattle.hv_program.proofs.CutOpenings.{cut-opens-later, later-behind}
+use Rattle.hv_program.proofs.CutOpenings.{still-opens, later-behind}
 use Rattle.hv_program.specs.Results.{IsBookOf, HasBook, IsServed, IsCutOff, IsStopped, IsUnopened, ReadsTo, ReadsFurther, StopsForMemory, StopsForStore}
 use Rattle.hv_program.specs.Serving.{ran_status, IsCutFull, ServedOf, BothTell, Serves, IsSaid}
 
@@ -104,7 +106,7 @@ stopped why told low high actions written now start book Keeps h keeps after ope
 
 -- ---- by the status
 
-served-zero : (low high : ℕ) (opened : List Entry) (actions : List Action) (written now : List ℕ) (before after : Store) → IsServed (from_to low high) (opening_of opened) actions (from_to written now) after false → ServedOf 0 (from_to low high) opened actions (from_to written now) (from_to before after)
+served-zero : (low high : ℕ) (opened : List Entry) (actions : List Action) (written now : List ℕ) (before after : Store) → IsServed (from_to low high) (opening_of before.tree opened) actions (from_to written now) after false → ServedOf 0 (from_to low high) opened actions (from_to written now) (from_to before after)
 served-zero low high opened actions written now before after h = record {
   accepted = λ e. h;
   refused = λ e. absurd (omega (arith, e));
@@ -114,7 +116,7 @@ served-zero low high opened actions written now before after h = record {
   memory = λ e. absurd (omega (arith, e));
 }
 
-served-one : (low high : ℕ) (opened : List Entry) (actions : List Action) (written now : List ℕ) (before after : Store) → IsServed (from_to low high) (opening_of opened) actions (from_to written now) after true → ServedOf 1 (from_to low high) opened actions (from_to written now) (from_to before after)
+served-one : (low high : ℕ) (opened : List Entry) (actions : List Action) (written now : List ℕ) (before after : Store) → IsServed (from_to low high) (opening_of before.tree opened) actions (from_to written now) after true → ServedOf 1 (from_to low high) opened actions (from_to written now) (from_to before after)
 served-one low high opened actions written now before after h = record {
   accepted = λ e. absurd (omega (arith, e));
   refused = λ e. h;
@@ -125,7 +127,7 @@ served-one low high opened actions written now before after h = record {
 }
 
 served-cut : (low high : ℕ) (opened : List Entry) (actions : List Action) (written now : List ℕ) (before after : Store)
-    → IsCutOff (from_to low high) (opening_of opened) actions (from_to written now) after ⊎ IsCutFull opened (from_to written now) (from_to before after) → ServedOf 4 (from_to low high) opened actions (from_to written now) (from_to before after)
+    → IsCutOff (from_to low high) (opening_of before.tree opened) actions (from_to written now) after ⊎ IsCutFull opened (from_to written now) (from_to before after) → ServedOf 4 (from_to low high) opened actions (from_to written now) (from_to before after)
 served-cut low high opened actions written now before after h = record {
   accepted = λ e. absurd (omega (arith, e));
   refused = λ e. absurd (omega (arith, e));
@@ -135,7 +137,7 @@ served-cut low high opened actions written now before after h = record {
   memory = λ e. absurd (omega (arith, e));
 }
 
-served-four : (low high : ℕ) (opened : List Entry) (actions : List Action) (written now : List ℕ) (before after : Store) → IsCutOff (from_to low high) (opening_of opened) actions (from_to written now) after → ServedOf 4 (from_to low high) opened actions (from_to written now) (from_to before after)
+served-four : (low high : ℕ) (opened : List Entry) (actions : List Action) (written now : List ℕ) (before after : Store) → IsCutOff (from_to low high) (opening_of before.tree opened) actions (from_to written now) after → ServedOf 4 (from_to low high) opened actions (from_to written now) (from_to before after)
 served-four low high opened actions written now before after h = served-cut low high opened actions written now before after (inl h)
 
 served-five : (low high : ℕ) (opened : List Entry) (actions : List Action) (written now : List ℕ) (before after : Store) → StopsForStore (from_to low high) opened actions (from_to written now) (from_to before after) → ServedOf 5 (from_to low high) opened actions (from_to written now) (from_to before after)
@@ -159,29 +161,32 @@ served-seven low high opened actions written now before after h = record {
 }
 
 served-ok : (low high : ℕ) (opened : List Entry) (actions : List Action) (refused : Bool) (written now : List ℕ) (before after : Store) (book : List Entry)
-    → Reads book after.journal → IsFaithful book after → PrintsAll (from_to low high) (opening_of opened) book actions (from_to (Some written) (Some now)) refused
+    → Reads book after.journal → IsFaithful book after → PrintsAll (from_to low high) (opening_of before.tree opened) book actions (from_to (Some written) (Some now)) refused
     → ServedOf (ran_status (Ok refused)) (from_to low high) opened actions (from_to written now) (from_to before after)
 served-ok low high opened actions false written now before after book reads faithful prints =
-    served-zero low high opened actions written now before after (all-served low high actions false written now after (opening_of opened) book faithful reads prints)
+    served-zero low high opened actions written now before after (all-served low high actions false written now after (opening_of before.tree opened) book faithful reads prints)
 served-ok low high opened actions true written now before after book reads faithful prints =
-    served-one low high opened actions written now before after (all-served low high actions true written now after (opening_of opened) book faithful reads prints)
+    served-one low high opened actions written now before after (all-served low high actions true written now after (opening_of before.tree opened) book faithful reads prints)
 
 -- ---- with what the outside tells
 
 same_some : {A : Type 0} (x y : A) → Some x ≡ Some y → x ≡ y
 same_some x y e = cc
 
--- the book that was opened is the one to which the store opens
-same-opened : (told : Option Store) (store : Store) (opened start : List Entry) → told ≡ Some store → OpensTo opened store → Opens profile told start → start ≡ opening_of opened
+-- the book that was opened is the one to which the store opens, with its opening over the files of that
+same-opened : (told : Option Store) (store : Store) (opened start : List Entry) → told ≡ Some store → OpensTo opened store → Opens profile told start
+    → start ≡ opening_of store.tree opened
 same-opened told store opened start at opens is =
     let reads : IsJournalOf profile is.0 store.journal =
     subst (λ (o : Option Store). Tells o (λ s. IsJournalOf profile is.0 s.journal)) at is.1.reads in
+    let whole : is.1.whole ≡ whole_jobs (state_of is.0) store.tree =
+    subst (λ (o : Option Store). Tells o (λ s. is.1.whole ≡ whole_jobs (state_of is.0) s.tree)) at is.1.whole_are in
     let same : is.0 ≡ opened = one-journal is.0 opened store.journal reads.journal opens.journal in
-    is.1.now_is ∙ ap opening_of same
+    is.1.now_is ∙ ap (λ (w : List ℕ). opening_with w is.0) whole ∙ ap (opening_of store.tree) same
 
 -- all were done
 ended-ok : {D : Type 0} (told : D → Option Store) (now : House D) (low high : ℕ) (opened : List Entry) (actions : List Action) (refused : Bool) (sink : Option (List ℕ)) (written n : List ℕ) (before : Store)
-    → IsWhole told now → IsToldHouse told now → sink ≡ Some n → PrintsAll (from_to low high) (opening_of opened) (entries_of now) actions (from_to (Some written) (Some n)) refused
+    → IsWhole told now → IsToldHouse told now → sink ≡ Some n → PrintsAll (from_to low high) (opening_of before.tree opened) (entries_of now) actions (from_to (Some written) (Some n)) refused
     → BothTell sink (told now.shelf)
     (λ wrote after. ServedOf (ran_status (Ok refused)) (from_to low high) opened actions (from_to written wrote) (from_to before after))
 ended-ok told now low high opened actions refused sink written n before whole is at_sink prints =
@@ -197,7 +202,7 @@ ended-ok told now low high opened actions refused sink written n before whole is
 
 -- or the run stopped
 ended-err : (why : Stop) (low high : ℕ) (opened : List Entry) (actions : List Action) (sink : Option (List ℕ)) (told : Option Store) (written n : List ℕ) (before : Store) (book : List Entry)
-    → sink ≡ Some n → Halts why (from_to low high) (opening_of opened) book actions (from_to (Some written) (Some n)) told
+    → sink ≡ Some n → Halts why (from_to low high) (opening_of before.tree opened) book actions (from_to (Some written) (Some n)) told
     → BothTell sink told
     (λ wrote after. ServedOf (status_of_stop why) (from_to low high) opened actions (from_to written wrote) (from_to before after))
 ended-err stop.Source low high opened actions sink told written n before book at_sink h = absurd h
@@ -208,31 +213,31 @@ ended-err stop.Sink low high opened actions sink told written n before book at_s
       store = left.0;
       sink_tells = at_sink;
       store_tells = left.1;
-      served = served-four low high opened actions written n before left.0 (cut-off low high actions written n left.0 (opening_of opened) book left.2 h.0);
+      served = served-four low high opened actions written n before left.0 (cut-off low high actions written n left.0 (opening_of before.tree opened) book left.2 h.0);
     }
 ended-err stop.Store low high opened actions sink told written n before book at_sink h =
     let left = found-some (OpensLater book) told h.1 in
-    let stops : StopsIn fault.Store (Some left.0) (from_to low high) (opening_of opened) book actions (from_to (Some written) (Some n)) =
-    subst (λ (o : Option Store). StopsIn fault.Store o (from_to low high) (opening_of opened) book actions (from_to (Some written) (Some n))) left.1 h.0 in
+    let stops : StopsIn fault.Store (Some left.0) (from_to low high) (opening_of before.tree opened) book actions (from_to (Some written) (Some n)) =
+    subst (λ (o : Option Store). StopsIn fault.Store o (from_to low high) (opening_of before.tree opened) book actions (from_to (Some written) (Some n))) left.1 h.0 in
     record {
       now = n;
       store = left.0;
       sink_tells = at_sink;
       store_tells = left.1;
       served = served-five low high opened actions written n before left.0
-          (inl (stopped fault.Store (Some left.0) low high actions written n (opening_of opened) book (ReadsFurther left.0.journal) stops stops.stops.leaves left.0 left.2));
+          (inl (stopped fault.Store (Some left.0) low high actions written n (opening_of before.tree opened) book (ReadsFurther left.0.journal) stops stops.stops.leaves left.0 left.2));
     }
 ended-err stop.NoMemory low high opened actions sink told written n before book at_sink h =
     let left = found-some (OpensLater book) told h.1 in
-    let stops : StopsIn fault.NoMemory (Some left.0) (from_to low high) (opening_of opened) book actions (from_to (Some written) (Some n)) =
-    subst (λ (o : Option Store). StopsIn fault.NoMemory o (from_to low high) (opening_of opened) book actions (from_to (Some written) (Some n))) left.1 h.0 in
+    let stops : StopsIn fault.NoMemory (Some left.0) (from_to low high) (opening_of before.tree opened) book actions (from_to (Some written) (Some n)) =
+    subst (λ (o : Option Store). StopsIn fault.NoMemory o (from_to low high) (opening_of before.tree opened) book actions (from_to (Some written) (Some n))) left.1 h.0 in
     record {
       now = n;
       store = left.0;
       sink_tells = at_sink;
       store_tells = left.1;
       served = served-seven low high opened actions written n before left.0
-          (inl (stopped fault.NoMemory (Some left.0) low high actions written n (opening_of opened) book (ReadsTo left.0.journal) stops stops.stops.leaves.2 left.0 left.2));
+          (inl (stopped fault.NoMemory (Some left.0) low high actions written n (opening_of before.tree opened) book (ReadsTo left.0.journal) stops stops.stops.leaves.2 left.0 left.2));
     }
 
 -- the counts may lie further apart
@@ -301,23 +306,23 @@ record Promised {D : Type 0} (told : D → Option Store) (faults : Change ℕ) (
   halts : IsToldHouse told house → IfErr ran (λ why. Halts why faults (entries_of house) (entries_of now) actions sinks (told now.shelf))
 
 ended : {D : Type 0} (told : D → Option Store) (house now : House D) (first low high : ℕ) (opened : List Entry) (actions : List Action) (ran : Result Bool Stop) (sink sink' : Option (List ℕ))
-    (written n : List ℕ) (before : Store) → first ≤ low → IsToldHouse told house → entries_of house ≡ opening_of opened → sink ≡ Some written → sink' ≡ Some n
+    (written n : List ℕ) (before : Store) → first ≤ low → IsToldHouse told house → entries_of house ≡ opening_of before.tree opened → sink ≡ Some written → sink' ≡ Some n
     → Promised told (from_to low high) ran actions house now (from_to sink sink') → BothTell sink' (told now.shelf)
     (λ wrote after. ServedOf (ran_status ran) (from_to first high) opened actions (from_to written wrote) (from_to before after))
 ended told house now first low high opened actions (Ok refused) sink sink' written n before below is begun at_sink at_now h =
-    let prints : PrintsAll (from_to low high) (opening_of opened) (entries_of now) actions (from_to (Some written) (Some n)) refused =
-    subst (λ (a : Option (List ℕ)). PrintsAll (from_to low high) (opening_of opened) (entries_of now) actions (from_to a (Some n)) refused) at_sink
-    (subst (λ (a : Option (List ℕ)). PrintsAll (from_to low high) (opening_of opened) (entries_of now) actions (from_to sink a) refused) at_now
+    let prints : PrintsAll (from_to low high) (opening_of before.tree opened) (entries_of now) actions (from_to (Some written) (Some n)) refused =
+    subst (λ (a : Option (List ℕ)). PrintsAll (from_to low high) (opening_of before.tree opened) (entries_of now) actions (from_to a (Some n)) refused) at_sink
+    (subst (λ (a : Option (List ℕ)). PrintsAll (from_to low high) (opening_of before.tree opened) (entries_of now) actions (from_to sink a) refused) at_now
     (subst (λ (book : List Entry). PrintsAll (from_to low high) book (entries_of now) actions (from_to sink sink') refused) begun (h.prints is))) in
     ended-ok told now first high opened actions refused sink' written n before h.whole (told-stays told house now h.start is) at_now
-    (prints-wider first low high (opening_of opened) (entries_of now) actions (Some written) (Some n) refused below prints)
+    (prints-wider first low high (opening_of before.tree opened) (entries_of now) actions (Some written) (Some n) refused below prints)
 ended told house now first low high opened actions (Err why) sink sink' written n before below is begun at_sink at_now h =
-    let halts : Halts why (from_to low high) (opening_of opened) (entries_of now) actions (from_to (Some written) (Some n)) (told now.shelf) =
-    subst (λ (a : Option (List ℕ)). Halts why (from_to low high) (opening_of opened) (entries_of now) actions (from_to a (Some n)) (told now.shelf)) at_sink
-    (subst (λ (a : Option (List ℕ)). Halts why (from_to low high) (opening_of opened) (entries_of now) actions (from_to sink a) (told now.shelf)) at_now
+    let halts : Halts why (from_to low high) (opening_of before.tree opened) (entries_of now) actions (from_to (Some written) (Some n)) (told now.shelf) =
+    subst (λ (a : Option (List ℕ)). Halts why (from_to low high) (opening_of before.tree opened) (entries_of now) actions (from_to a (Some n)) (told now.shelf)) at_sink
+    (subst (λ (a : Option (List ℕ)). Halts why (from_to low high) (opening_of before.tree opened) (entries_of now) actions (from_to sink a) (told now.shelf)) at_now
     (subst (λ (book : List Entry). Halts why (from_to low high) book (entries_of now) actions (from_to sink sink') (told now.shelf)) begun (h.halts is))) in
     ended-err why first high opened actions sink' (told now.shelf) written n before (entries_of now) at_now
-    (halts-wider why (told now.shelf) first low high (opening_of opened) (entries_of now) actions (Some written) (Some n) below halts)
+    (halts-wider why (told now.shelf) first low high (opening_of before.tree opened) (entries_of now) actions (Some written) (Some n) below halts)
 
 pub Serves-run : {D : Type 0} (told : D → Option Store) (shelf : D) (house now : House D) (status first low high last : ℕ) (actions given : List Action) (ran : Result Bool Stop)
     (sink sink' : Option (List ℕ)) (closed : Option Store) → status ≡ ran_status ran → first ≤ low → last ≡ high → given ≡ actions → closed ≡ told now.shelf
@@ -341,67 +346,71 @@ Serves-run told shelf house now status first low high last actions given ran sin
 
 -- ---- an opening that stopped
 
-cut-opening : (why : BootFault) (told told' : Option Store) (store : Store) (opened : List Entry) → told ≡ Some store → OpensTo opened store → StopsOpening profile told told' why
-    → Tells told' (λ s. IsCutOpening why opened s.journal)
-cut-opening why None told' store opened at opens stops = cc
-cut-opening why (Some s) None store opened at opens stops = tt
-cut-opening why (Some s) (Some t) store opened at opens stops =
-    let one : s ≡ store = same_some s store at in
-    stops opened (record { journal = subst (λ (x : Store). IsJournal opened x.journal) (sym one) opens.journal; fit = opens.faithful.legal.fit })
-
--- where it was noted only with room
-cut-room : (told told' : Option Store) (store : Store) (opened : List Entry) → told ≡ Some store → OpensTo opened store → StopsWithRoom profile told told'
-    → Tells told' (λ s. NotesWithRoom profile opened s.journal)
-cut-room None told' store opened at opens stops = cc
-cut-room (Some s) None store opened at opens stops = tt
-cut-room (Some s) (Some t) store opened at opens stops =
-    let one : s ≡ store = same_some s store at in
-    stops opened (record { journal = subst (λ (x : Store). IsJournal opened x.journal) (sym one) opens.journal; fit = opens.faithful.legal.fit })
+unopened-by : (why : BootFault) (book : List Entry) (written : List ℕ) (before s t : Store) → s ≡ before → OpensTo book before
+    → (IsJournalOf profile book s.journal → IsIdle book → KeepsTree s t)
+    → (IsJournalOf profile book s.journal → IsCutOpening why (whole_jobs (state_of book) s.tree) book t.journal)
+    → (OpensTo book s → IsOpenStill profile why book (opening_entries (whole_jobs (state_of book) s.tree) (state_of book)) t)
+    → IsUnopened book (from_to written written) (from_to before t) (IsCutOpening why (whole_jobs (state_of book) before.tree) book)
+unopened-by why book written before s t one opens idle stops still =
+    let here : OpensTo book s = subst (OpensTo book) (sym one) opens in
+    let reads : IsJournalOf profile book s.journal = record { journal = here.journal; fit = here.left.legal.fit } in
+    record {
+      wrote = refl;
+      files = λ none. idle reads none ∙ ap (λ (x : Store). x.tree) one;
+      keeps = subst (λ (x : Store). IsCutOpening why (whole_jobs (state_of book) x.tree) book t.journal) one (stops reads);
+      opens = still-opens why book (opening_entries (whole_jobs (state_of book) s.tree) (state_of book)) t (still here);
+    }
 
 no-store : (before : Store) (told : Option Store) → told ≡ None → told ≡ Some before → ⊥
 no-store before told none some = cc
 
-unopened-any : (book : List Entry) (written : List ℕ) (before : Store) (told told' : Option Store) (Keeps : List ℕ → Type 0) → told ≡ Some before → Moves KeepsTree told told'
-    → ((after : Store) → after.tree ≡ before.tree → Keeps after.journal → NotesWithRoom profile book after.journal → OpensLater book after)
-    → Tells told' (λ s. Keeps s.journal) → Tells told' (λ s. NotesWithRoom profile book s.journal) → (after : Store) × (told' ≡ Some after) × IsUnopened book (from_to written written) (from_to before after) Keeps
-unopened-any book written before None told' Keeps e tree later keeps room = absurd (no-store before None refl e)
-unopened-any book written before (Some s) None Keeps e tree later keeps room = absurd tree
-unopened-any book written before (Some s) (Some s') Keeps e tree later keeps room =
-    let same : s'.tree ≡ before.tree = tree ∙ ap (λ (x : Store). x.tree) (same_some s before e) in
-    (s', refl, record { wrote = refl; files = same; keeps = keeps; opens = later s' same keeps room })
+unopened : (why : BootFault) (book : List Entry) (written : List ℕ) (before : Store) (told told' : Option Store) → told ≡ Some before → OpensTo book before
+    → KeepsIdle profile told told' → StopsOpening profile told told' why → StopsOpen profile told told' why
+    → (after : Store) × (told' ≡ Some after)
+    × IsUnopened book (from_to written written) (from_to before after) (IsCutOpening why (whole_jobs (state_of book) before.tree) book)
+unopened why book written before None told' e opens idle stops still = absurd (no-store before None refl e)
+unopened why book written before (Some s) None e opens idle stops still = absurd idle
+unopened why book written before (Some s) (Some t) e opens idle stops still =
+    (t, refl, unopened-by why book written before s t (same_some s before e) opens (idle book) (stops book) (still book))
 
-unopened : (why : BootFault) (book : List Entry) (written : List ℕ) (before : Store) (told told' : Option Store) → told ≡ Some before → Moves KeepsTree told told'
-    → OpensTo book before → Tells told' (λ s. IsCutOpening why book s.journal) → Tells told' (λ s. NotesWithRoom profile book s.journal)
-    → (after : Store) × (told' ≡ Some after) × IsUnopened book (from_to written written) (from_to before after) (IsCutOpening why book)
-unopened why book written before told told' e tree opens keeps room =
-    unopened-any book written before told told' (IsCutOpening why book) e tree
-    (λ after same cut noted. cut-opens-later why book before after noted same opens.faithful cut) keeps room
+Serves-five : (low high : ℕ) (actions : List Action) (sink : Option (List ℕ)) (told told' : Option Store) → KeepsIdle profile told told'
+    → StopsOpening profile told told' boot.Store → StopsOpen profile told told' boot.Store → Serves 5 (from_to low high) actions (from_to sink sink) (from_to told told')
+Serves-five low high actions sink told told' idle stops still = λ written store opened at_sink at_told opens.
+    let there = unopened boot.Store opened written store told told' at_told opens idle stops still in
+    record {
+      now = written;
+      store = there.0;
+      sink_tells = at_sink;
+      store_tells = there.1;
+      served = served-five low high opened actions written written store there.0 (inr there.2);
+    }
 
-Serves-five : (low high : ℕ) (actions : List Action) (sink : Option (List ℕ)) (told told' : Option Store) → Moves KeepsTree told told'
-    → StopsOpening profile told told' boot.Store → StopsWithRoom profile told told' → Serves 5 (from_to low high) actions (from_to sink sink) (from_to told told')
-Serves-five low high actions sink told told' tree stops room = λ written store opened at_sink at_told opens.
-    let there = unopened boot.Store opened written store told told' at_told tree opens (cut-opening boot.Store told told' store opened at_told opens stops)
-    (cut-room told told' store opened at_told opens room) in
-    record { now = written; store = there.0; sink_tells = at_sink; store_tells = there.1; served = served-five low high opened actions written written store there.0 (inr there.2) }
+Serves-seven : (low high : ℕ) (actions : List Action) (sink : Option (List ℕ)) (told told' : Option Store) → KeepsIdle profile told told'
+    → StopsOpening profile told told' boot.NoMemory → StopsOpen profile told told' boot.NoMemory
+    → Serves 7 (from_to low high) actions (from_to sink sink) (from_to told told')
+Serves-seven low high actions sink told told' idle stops still = λ written store opened at_sink at_told opens.
+    let there = unopened boot.NoMemory opened written store told told' at_told opens idle stops still in
+    record {
+      now = written;
+      store = there.0;
+      sink_tells = at_sink;
+      store_tells = there.1;
+      served = served-seven low high opened actions written written store there.0 (inr there.2);
+    }
 
-Serves-seven : (low high : ℕ) (actions : List Action) (sink : Option (List ℕ)) (told told' : Option Store) → Moves KeepsTree told told'
-    → StopsOpening profile told told' boot.NoMemory → StopsWithRoom profile told told' → Serves 7 (from_to low high) actions (from_to sink sink) (from_to told told')
-Serves-seven low high actions sink told told' tree stops room = λ written store opened at_sink at_told opens.
-    let there = unopened boot.NoMemory opened written store told told' at_told tree opens (cut-opening boot.NoMemory told told' store opened at_told opens stops)
-    (cut-room told told' store opened at_told opens room) in
-    record { now = written; store = there.0; sink_tells = at_sink; store_tells = there.1; served = served-seven low high opened actions written written store there.0 (inr there.2) }
-
-pub Serves-store : (status low high : ℕ) (actions : List Action) (sink : Option (List ℕ)) (told told' : Option Store) (why : BootFault) → status ≡ 5 → why ≡ boot.Store → Moves KeepsTree told told'
-    → StopsOpening profile told told' why → StopsWithRoom profile told told' → Serves status (from_to low high) actions (from_to sink sink) (from_to told told')
-Serves-store status low high actions sink told told' why e is tree stops room =
+pub Serves-store : (status low high : ℕ) (actions : List Action) (sink : Option (List ℕ)) (told told' : Option Store) (why : BootFault) → status ≡ 5
+    → why ≡ boot.Store → KeepsIdle profile told told' → StopsOpening profile told told' why → StopsOpen profile told told' why
+    → Serves status (from_to low high) actions (from_to sink sink) (from_to told told')
+Serves-store status low high actions sink told told' why e is idle stops still =
     subst (λ n. Serves n (from_to low high) actions (from_to sink sink) (from_to told told')) (sym e)
-    (Serves-five low high actions sink told told' tree (subst (StopsOpening profile told told') is stops) room)
+    (Serves-five low high actions sink told told' idle (subst (StopsOpening profile told told') is stops) (subst (StopsOpen profile told told') is still))
 
-pub Serves-memory : (status low high : ℕ) (actions : List Action) (sink : Option (List ℕ)) (told told' : Option Store) (why : BootFault) → status ≡ 7 → why ≡ boot.NoMemory → Moves KeepsTree told told'
-    → StopsOpening profile told told' why → StopsWithRoom profile told told' → Serves status (from_to low high) actions (from_to sink sink) (from_to told told')
-Serves-memory status low high actions sink told told' why e is tree stops room =
+pub Serves-memory : (status low high : ℕ) (actions : List Action) (sink : Option (List ℕ)) (told told' : Option Store) (why : BootFault) → status ≡ 7
+    → why ≡ boot.NoMemory → KeepsIdle profile told told' → StopsOpening profile told told' why → StopsOpen profile told told' why
+    → Serves status (from_to low high) actions (from_to sink sink) (from_to told told')
+Serves-memory status low high actions sink told told' why e is idle stops still =
     subst (λ n. Serves n (from_to low high) actions (from_to sink sink) (from_to told told')) (sym e)
-    (Serves-seven low high actions sink told told' tree (subst (StopsOpening profile told told') is stops) room)
+    (Serves-seven low high actions sink told told' idle (subst (StopsOpening profile told told') is stops) (subst (StopsOpen profile told told') is still))
 
 -- ---- a journal that isn't opened
 
@@ -419,7 +428,7 @@ full-book : (told : Option Store) (store : Store) (opened : List Entry) → told
     → profile.entries < load (state_of opened) + 1
 full-book told store opened at opens full =
     let here : HasFullBook profile store = subst (λ (o : Option Store). Tells o (HasFullBook profile)) at full in
-    here opened (record { journal = opens.journal; fit = opens.faithful.legal.fit })
+    here opened (record { journal = opens.journal; fit = opens.left.legal.fit })
 
 -- a content that a move made, where it was told
 moved : {A : Type 0} (P : A → A → Type 0) (a b : Option A) (x : A) → a ≡ Some x → Moves P a b → (y : A) × (b ≡ Some y) × P x y
@@ -457,7 +466,7 @@ opens-later low high start book store is has = record {
   book = book;
   opens = record {
     journal = reads-journal book store.journal has.reads;
-    faithful = record { stands = has.stands; legal = is.legal };
+    left = faithful-is-left book store (record { stands = has.stands; legal = is.legal });
   };
   begins = (is.grows.more, is.grows.book_is);
 }
@@ -478,13 +487,13 @@ stopped-opens low high start actions written now store Keeps is =
 pub failed-opens : (low high : ℕ) (book : List Entry) (actions : List Action) (written now : List ℕ) (before store : Store)
     → StopsForStore (from_to low high) book actions (from_to written now) (from_to before store) → OpensLater book store
 failed-opens low high book actions written now before store (inl is) =
-    later-behind book (opening_entries (state_of book)) (opening_of book) store refl
-    (stopped-opens low high (opening_of book) actions written now store (ReadsFurther store.journal) is)
+    later-behind book (opening_entries (whole_jobs (state_of book) before.tree) (state_of book)) (opening_of before.tree book) store refl
+    (stopped-opens low high (opening_of before.tree book) actions written now store (ReadsFurther store.journal) is)
 failed-opens low high book actions written now before store (inr is) = is.opens
 
 pub lacked-opens : (low high : ℕ) (book : List Entry) (actions : List Action) (written now : List ℕ) (before store : Store)
     → StopsForMemory (from_to low high) book actions (from_to written now) (from_to before store) → OpensLater book store
 lacked-opens low high book actions written now before store (inl is) =
-    later-behind book (opening_entries (state_of book)) (opening_of book) store refl
-    (stopped-opens low high (opening_of book) actions written now store (ReadsTo store.journal) is)
+    later-behind book (opening_entries (whole_jobs (state_of book) before.tree) (state_of book)) (opening_of before.tree book) store refl
+    (stopped-opens low high (opening_of before.tree book) actions written now store (ReadsTo store.journal) is)
 lacked-opens low high book actions written now before store (inr is) = is.opens

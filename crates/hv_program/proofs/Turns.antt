@@ -12,7 +12,7 @@ use Rattle.hv_script.specs.declared.actions.Action.{Action}
 use Rattle.hv_session.specs.hv_steps.specs.hv_table_reader.specs.hv_acts.specs.hv_telling.specs.hv_house.specs.declared.house.House.{House}
 use Rattle.hv_session.specs.hv_steps.specs.hv_table_reader.specs.hv_acts.specs.hv_telling.specs.hv_house.specs.declared.fault.HouseFault.{HouseFault}
 use Rattle.hv_session.specs.hv_steps.specs.hv_table_reader.specs.hv_acts.specs.hv_telling.specs.hv_house.specs.declared.fault.HouseFault.TheVariants as fault
-use Rattle.hv_session.specs.hv_steps.specs.hv_table_reader.specs.hv_acts.specs.hv_telling.specs.hv_house.specs.House.{entries_of, IsFaithful}
+use Rattle.hv_session.specs.hv_steps.specs.hv_table_reader.specs.hv_acts.specs.hv_telling.specs.hv_house.specs.House.{entries_of, IsFaithful, Leaves}
 use Rattle.hv_session.specs.hv_steps.specs.hv_table_reader.specs.hv_acts.specs.hv_telling.specs.hv_house.specs.Faults.{EndsRun}
 use Rattle.hv_session.specs.hv_steps.specs.hv_table_reader.specs.hv_acts.specs.hv_telling.specs.Telling.{IsWhole, IsToldHouse, OpensLater, StillOpens}
 use Rattle.hv_session.specs.hv_steps.specs.hv_table_reader.specs.hv_acts.specs.hv_telling.proofs.Told.{both-some, true-shown, whole-shown, opens-told}
@@ -143,6 +143,15 @@ Prints-stopped why told low middle high start before book actions front behind a
   written = h.written;
 }
 
+-- no fault of a file stops a run
+leaves-ends : (why : HouseFault) (events : List Entry) (told : Option Store) (book : List Entry) → Leaves why events told book → EndsRun why
+leaves-ends fault.Store events told book left = tt
+leaves-ends fault.NoMemory events told book left = tt
+leaves-ends (fault.Failed count) events told book left = absurd left
+
+pub stops-ends : (why : HouseFault) (told : Option Store) (before : Standing) (act : Action) (now : List Entry) → Stops why told before act now → EndsRun why
+stops-ends why told before act now stops = leaves-ends why stops.leaves.0 told now stops.leaves.2
+
 halts : (why : HouseFault) (told : Option Store) (low high : ℕ) (start book : List Entry) (actions : List Action) (a b : Option (List ℕ)) → EndsRun why
     → StopsIn why told (from_to low high) start book actions (from_to a b) → IsSomeAnd told (OpensLater book) → Halts (stop_of why) (from_to low high) start book actions (from_to a b) told
 halts fault.Store told low high start book actions a b ends stopped opens = (stopped, opens)
@@ -150,15 +159,15 @@ halts (fault.Failed count) told low high start book actions a b ends stopped ope
 halts fault.NoMemory told low high start book actions a b ends stopped opens = (stopped, opens)
 
 pub Halts-stopped : {D : Type 0} (told : D → Option Store) (why : HouseFault) (result : Result Bool Stop) (low middle high : ℕ) (start : List Entry) (before now : House D) (helds : List Held)
-    (actions : List Action) (i : ℕ) (act : Action) (refused : Bool) (a b : Option (List ℕ)) → IsErrAnd result (λ e. e ≡ stop_of why) → low ≤ middle → middle ≤ high → EndsRun why
+    (actions : List Action) (i : ℕ) (act : Action) (refused : Bool) (a b : Option (List ℕ)) → IsErrAnd result (λ e. e ≡ stop_of why) → low ≤ middle → middle ≤ high
     → i < length actions → act ≡ get_or actions i act
     → Prints (from_to low middle) start (standing_of before helds) (take i actions) (from_to a b) refused → IsWhole told before → IsToldHouse told before
     → Stops why (told now.shelf) (standing_of before helds) act (entries_of now) → StillOpens told now
     → IfErr result (λ e. Halts e (from_to low high) start (entries_of now) actions (from_to a b) (told now.shelf))
-Halts-stopped told why result low middle high start before now helds actions i act refused a b err below above ends inside is h whole told_of stops opens =
+Halts-stopped told why result low middle high start before now helds actions i act refused a b err below above inside is h whole told_of stops opens =
     let shown = whole-shown told before whole told_of in
     passed_up result (stop_of why) (λ e. Halts e (from_to low high) start (entries_of now) actions (from_to a b) (told now.shelf)) err
-    (halts why (told now.shelf) low high start (entries_of now) actions a b ends
+    (halts why (told now.shelf) low high start (entries_of now) actions a b (stops-ends why (told now.shelf) (standing_of before helds) act (entries_of now) stops)
     (Prints-stopped why (told now.shelf) low middle high start (standing_of before helds) (entries_of now) actions (take i actions) (drop (suc i) actions) a b refused act below above
     (split_at actions i act inside is) shown.2.legal h stops) (opens-told told now opens))
 

@@ -165,18 +165,18 @@ module _ (low high : ℕ) (words : List (List ℕ)) (book : List Entry) (script 
   after-memory : (status : ℕ) → status ≡ 7 → IsUnread (from_to written now) (from_to before after) → IsAfter (from_to low high) words book status (from_to script left) (from_to written now) (from_to before after)
   after-memory status e unread = subst (λ n. IsAfter (from_to low high) words book n (from_to script left) (from_to written now) (from_to before after)) (sym e) (after-seven unread)
 
-  cut-by : IsWhole script left → (IsCutOff (from_to low high) (opening_of book) (actions_of script) (from_to written now) after ⊎ IsCutFull book (from_to written now) (from_to before after))
-      → (IsWhole script left × IsCutOff (from_to low high) (opening_of book) (actions_of script) (from_to written now) after) ⊎ IsCutLine words book script (from_to written now) (from_to before after)
+  cut-by : IsWhole script left → (IsCutOff (from_to low high) (opening_of before.tree book) (actions_of script) (from_to written now) after ⊎ IsCutFull book (from_to written now) (from_to before after))
+      → (IsWhole script left × IsCutOff (from_to low high) (opening_of before.tree book) (actions_of script) (from_to written now) after) ⊎ IsCutLine words book script (from_to written now) (from_to before after)
   cut-by whole (inl cut) = inl (whole, cut)
   cut-by whole (inr full) = inr (record { line = full_line; is_line = inr (inr (whole.unrefused, full.full, refl)); wrote = full.wrote; store_same = full.store_same })
 
-  all-done : IsWhole script left → (refused : Bool) → IsServed (from_to low high) (opening_of book) (actions_of script) (from_to written now) after refused
-      → IsAllDone (from_to low high) book (from_to script left) (from_to written now) after refused
+  all-done : IsWhole script left → (refused : Bool) → IsServed (from_to low high) (opening_of before.tree book) (actions_of script) (from_to written now) after refused
+      → IsAllDone (from_to low high) book (from_to script left) (from_to written now) (from_to before after) refused
   all-done whole refused served = record {
     whole = whole;
     served = served;
-    in_turn = in-turn script (opening_of book) served.last.book served.last served.output refused whole.unrefused served.are_done;
-    settled = settled script (opening_of book) served.last.book served.last served.output refused whole.unrefused served.are_done;
+    in_turn = in-turn script (opening_of before.tree book) served.last.book served.last served.output refused whole.unrefused served.are_done;
+    settled = settled script (opening_of before.tree book) served.last.book served.last served.output refused whole.unrefused served.are_done;
   }
 
   after-served : (status : ℕ) (actions : List Action) → IsWhole script left → actions ≡ actions_of script → ServedOf status (from_to low high) book actions (from_to written now) (from_to before after)

@@ -54,7 +54,8 @@ asking_of statement = record { session = statement.session.name; number = statem
 
 -- the statement was opened as a transaction, behind those of an earlier run, and the reply is its answer: what the text means at its
 -- snapshot, or its refusal
-pub record IsAnswerIn (books : Change (List Entry)) (asking : Asking) (txn : ℕ) (reply : List ℕ) (refused : Bool) : Type 0 where
+pub record IsAnswerIn (books : Change (List Entry)) (asking : Asking) (txn : ℕ) (reply : List ℕ)
+    (refused : Bool) : Type 0 where
   pub own : length (state_of books.was).transactions < txn
   pub was_opened : Contains books.now (Opened (record { 0 = txn }) asking.session asking.number asking.text)
   pub ended : Option ℕ
@@ -74,7 +75,8 @@ pub record IsLineOf (reply wanted : List ℕ) (refused : Bool) : Type 0 where
 
 -- It went on to its end at once: as a transaction that started where it could, whose entries come in the order of its way, and that ended
 -- then, before the place where it was to be held.
-pub record WentOn (books : Change (List Entry)) (before now : List Entry) (asking : Asking) (hold : Option Stage) (reply : List ℕ) (refused : Bool) : Type 0 where
+pub record WentOn (books : Change (List Entry)) (before now : List Entry) (asking : Asking) (hold : Option Stage)
+    (reply : List ℕ) (refused : Bool) : Type 0 where
   pub added : List Entry
   pub goes : now ≡ before ++ opening before asking ∷ added
   pub tree : Stmt
@@ -86,16 +88,19 @@ pub record WentOn (books : Change (List Entry)) (before now : List Entry) (askin
   pub answered_then : HasReplied now (next_number before) reply refused is_answer.ended
   pub in_order : AllInOrder (state_of before) (opening before asking ∷ added)
 
-abbrev pub RepliesAtOnce : Change (List Entry) → List Entry → List Entry → Asking → Option Stage → List ℕ → Bool → Type 0
+abbrev pub RepliesAtOnce : Change (List Entry) → List Entry → List Entry → Asking → Option Stage → List ℕ → Bool
+    → Type 0
 RepliesAtOnce books before now asking hold reply refused =
     WentOn books before now asking hold reply refused
     ⊎ ((now ≡ before) × IsRefused asking.text × IsFaultIn asking.text reply refused)
-    ⊎ ((now ≡ before) × (profile.entries < load (state_of before) + 2) × IsLineOf reply (cause_text None cause.Full) refused)
+    ⊎ ((now ≡ before) × (profile.entries < load (state_of before) + 2)
+    × IsLineOf reply (cause_text None cause.Full) refused)
     ⊎ ((now ≡ before) × IsLineOf reply (cause_text None cause.Memory) refused)
 
 -- It is held: its transaction is open, and nothing is printed. Its entries come in the order of its way, and none is left that comes before
 -- its hold: before its commit it has asked for all aborts that its text lists.
-pub record IsHeldNow (books : Change (List Entry)) (before now : List Entry) (asking : Asking) (hold : Option Stage) : Type 0 where
+pub record IsHeldNow (books : Change (List Entry)) (before now : List Entry) (asking : Asking)
+    (hold : Option Stage) : Type 0 where
   pub added : List Entry
   pub goes : now ≡ before ++ opening before asking ∷ added
   pub tree : Stmt
@@ -106,13 +111,16 @@ pub record IsHeldNow (books : Change (List Entry)) (before now : List Entry) (as
   pub was_opened : Contains books.now (opening before asking)
   pub in_order : AllInOrder (state_of before) (opening before asking ∷ added)
   pub up_to_hold : Of (state_of now) (next_number before)
-      (λ transaction. IsAtHold hold transaction.given (meaning transaction) × HasAskedAt hold (state_of now) (next_number before) transaction)
+      (λ transaction. IsAtHold hold transaction.given (meaning transaction)
+      × HasAskedAt hold (state_of now) (next_number before) transaction)
 
-pub record Replies (books : Change (List Entry)) (before now : Standing) (asking : Asking) (hold : Option Stage) (output : List ℕ) (refused : Bool) : Type 0 where
+pub record Replies (books : Change (List Entry)) (before now : Standing) (asking : Asking) (hold : Option Stage)
+    (output : List ℕ) (refused : Bool) : Type 0 where
   pub goes : RepliesAtOnce books before.book now.book asking hold output refused
   pub waiting_same : now.waiting ≡ before.waiting
 
-pub record IsPutOff (books : Change (List Entry)) (before now : Standing) (asking : Asking) (hold : Option Stage) (output : List ℕ) (refused : Bool) : Type 0 where
+pub record IsPutOff (books : Change (List Entry)) (before now : Standing) (asking : Asking) (hold : Option Stage)
+    (output : List ℕ) (refused : Bool) : Type 0 where
   pub goes : IsHeldNow books before.book now.book asking hold
   pub waits : now.waiting ≡ before.waiting ++ record { session = asking.session; txn = next_number before.book } ∷ []
   pub nothing : output ≡ []
@@ -120,7 +128,8 @@ pub record IsPutOff (books : Change (List Entry)) (before now : Standing) (askin
 
 -- a statement that was held went on to its end, by entries of its transaction alone, in the order of its way; none where another statement had
 -- asked for its abort, and that is its reply
-pub record GoesOnHeld (books : Change (List Entry)) (before now : List Entry) (txn : ℕ) (reply : List ℕ) (refused : Bool) : Type 0 where
+pub record GoesOnHeld (books : Change (List Entry)) (before now : List Entry) (txn : ℕ) (reply : List ℕ)
+    (refused : Bool) : Type 0 where
   pub added : List Entry
   pub goes : now ≡ before ++ added
   pub of_it : AreOf txn added
@@ -141,7 +150,8 @@ session_line name = line (codes "-- session " ++ name)
 
 -- by one action the run stands there, and this is printed
 abbrev pub IsDone : Change (List Entry) → Standing → Standing → Action → List ℕ → Bool → Type 0
-IsDone books before now (action.Announce session) output refused = (now ≡ before) × (output ≡ session_line session.name) × (refused ≡ false)
+IsDone books before now (action.Announce session) output refused = (now ≡ before) × (output ≡ session_line session.name)
+    × (refused ≡ false)
 IsDone books before now (action.Run statement) output refused =
     Replies books before now (asking_of statement) statement.hold output refused
     ⊎ IsPutOff books before now (asking_of statement) statement.hold output refused
@@ -165,7 +175,8 @@ IsInTurn before (action.Run statement) = waiting_in statement.session.name befor
 IsInTurn before (action.Release session) = Unit {0}
 
 -- and so it was before each of these actions, as they were done: the last statement of the session had ended
-abbrev pub AreInTurn : (books : Change (List Entry)) (before now : Standing) (actions : List Action) (output : List ℕ) (refused : Bool)
+abbrev pub AreInTurn : (books : Change (List Entry)) (before now : Standing) (actions : List Action) (output : List ℕ)
+    (refused : Bool)
     → AreDone books before now actions output refused → Type 0
 AreInTurn books before now [] output refused done = Unit {0}
 AreInTurn books before now (first ∷ more) output refused done =

@@ -26,11 +26,13 @@ pub record IsWhole (script left : List ℕ) : Type 0 where
   pub at_end : left ≡ []
 
 -- all of the script that was read was done, each statement behind the end of its session's last, and none waits any more
-pub record IsAllDone (faults : Change ℕ) (book : List Entry) (source written : Change (List ℕ)) (store : Store) (refused : Bool) : Type 0 where
+pub record IsAllDone (faults : Change ℕ) (book : List Entry) (source written : Change (List ℕ)) (stores : Change Store)
+    (refused : Bool) : Type 0 where
   pub whole : IsWhole source.was source.now
-  pub served : IsServed faults (opening_of book) (actions_of source.was) written store refused
-  pub in_turn : AreInTurn (from_to (opening_of book) served.last.book) (beginning (opening_of book)) served.last (actions_of source.was) served.output refused
-      served.are_done
+  pub served : IsServed faults (opening_of stores.was.tree book) (actions_of source.was) written stores.now refused
+  pub in_turn : AreInTurn (from_to (opening_of stores.was.tree book) served.last.book)
+      (beginning (opening_of stores.was.tree book)) served.last
+      (actions_of source.was) served.output refused served.are_done
   pub settled : served.last.waiting ≡ []
 
 -- the line of a run that does nothing
@@ -41,7 +43,8 @@ IsLineOf words book script line =
     ⊎ ((refused_at script ≡ None) × (profile.entries < load (state_of book) + 1) × (line ≡ full_line))
 
 -- a front of that line was written, and the store is as it was
-pub record IsCutLine (words : List (List ℕ)) (book : List Entry) (script : List ℕ) (written : Change (List ℕ)) (stores : Change Store) : Type 0 where
+pub record IsCutLine (words : List (List ℕ)) (book : List Entry) (script : List ℕ) (written : Change (List ℕ))
+    (stores : Change Store) : Type 0 where
   pub line : List ℕ
   pub is_line : IsLineOf words book script line
   pub wrote : GainsPart line written.was written.now
@@ -54,15 +57,19 @@ pub record IsUnread (written : Change (List ℕ)) (stores : Change Store) : Type
 
 -- What was written, what the book has, and which files stand, by the status; `source` is the script and what is left of it. The runs of the statuses 2, 6, 8 and 9
 -- do nothing but write their line.
-pub record IsAfter (faults : Change ℕ) (words : List (List ℕ)) (book : List Entry) (status : ℕ) (source written : Change (List ℕ)) (stores : Change Store)
+pub record IsAfter (faults : Change ℕ) (words : List (List ℕ)) (book : List Entry) (status : ℕ)
+    (source written : Change (List ℕ)) (stores : Change Store)
     : Type 0 where
-  pub accepted : status ≡ 0 → IsAllDone faults book source written stores.now false
-  pub refused : status ≡ 1 → IsAllDone faults book source written stores.now true
+  pub accepted : status ≡ 0 → IsAllDone faults book source written stores false
+  pub refused : status ≡ 1 → IsAllDone faults book source written stores true
   pub source_failed : status ≡ 3 → IsUnread written stores
-  pub sink_failed : status ≡ 4 → (IsWhole source.was source.now × IsCutOff faults (opening_of book) (actions_of source.was) written stores.now)
+  pub sink_failed : status ≡ 4 → (IsWhole source.was source.now
+      × IsCutOff faults (opening_of stores.was.tree book) (actions_of source.was) written stores.now)
       ⊎ IsCutLine words book source.was written stores
-  pub store_failed : status ≡ 5 → IsWhole source.was source.now × StopsForStore faults book (actions_of source.was) written stores
-  pub no_memory : status ≡ 7 → (IsWhole source.was source.now × StopsForMemory faults book (actions_of source.was) written stores)
+  pub store_failed : status ≡ 5 → IsWhole source.was source.now
+      × StopsForStore faults book (actions_of source.was) written stores
+  pub no_memory : status ≡ 7 → (IsWhole source.was source.now
+      × StopsForMemory faults book (actions_of source.was) written stores)
       ⊎ IsUnread written stores
 
 -- the outside tells: what is left, what was written, and the store; and of what it tells this is so
@@ -81,4 +88,5 @@ abbrev pub Headline : List (List ℕ) → Outside → Outside → ℕ → ℕ �
 Headline words before after low high status =
     (script written : List ℕ) (store : Store) (book : List Entry)
     → before.source ≡ Some script → before.sink ≡ Some written → before.store ≡ Some store → OpensTo book store
-    → AllTell after (λ left now store'. IsAfter (from_to low high) words book status (from_to script left) (from_to written now) (from_to store store'))
+    → AllTell after (λ left now store'. IsAfter (from_to low high) words book status (from_to script left)
+    (from_to written now) (from_to store store'))

@@ -22,18 +22,21 @@ pub record Says (Gained : List ℕ → List ℕ → List ℕ → Type 0) (line :
   -- the store is as it was
   pub store_same : after.store ≡ before.store
 
-pub record IsBadWords (Gained : List ℕ → List ℕ → List ℕ → Type 0) (words : List (List ℕ)) (before after : Outside) : Type 0 where
+pub record IsBadWords (Gained : List ℕ → List ℕ → List ℕ → Type 0) (words : List (List ℕ))
+    (before after : Outside) : Type 0 where
   pub words_are : run_of words ≡ None
   pub source_same : after.source ≡ before.source
   pub says : Says Gained words_line before after
 
-pub record IsRefusedScript (Gained : List ℕ → List ℕ → List ℕ → Type 0) (words : List (List ℕ)) (before after : Outside) : Type 0 where
+pub record IsRefusedScript (Gained : List ℕ → List ℕ → List ℕ → Type 0) (words : List (List ℕ))
+    (before after : Outside) : Type 0 where
   pub words_are : IsSome (run_of words)
   pub line : ℕ
   pub refused : Tells before.source (λ script. refused_at script ≡ Some line)
   pub says : Says Gained (script_line line) before after
 
-pub record IsBadJournal (Gained : List ℕ → List ℕ → List ℕ → Type 0) (words : List (List ℕ)) (before after : Outside) : Type 0 where
+pub record IsBadJournal (Gained : List ℕ → List ℕ → List ℕ → Type 0) (words : List (List ℕ))
+    (before after : Outside) : Type 0 where
   pub words_are : IsSome (run_of words)
   pub unrefused : Tells before.source (λ script. refused_at script ≡ None)
   pub at : ℕ
@@ -41,7 +44,8 @@ pub record IsBadJournal (Gained : List ℕ → List ℕ → List ℕ → Type 0)
   pub shut : Tells before.store (HasNoBook profile)
   pub says : Says Gained (journal_line at) before after
 
-pub record IsFullJournal (Gained : List ℕ → List ℕ → List ℕ → Type 0) (words : List (List ℕ)) (before after : Outside) : Type 0 where
+pub record IsFullJournal (Gained : List ℕ → List ℕ → List ℕ → Type 0) (words : List (List ℕ))
+    (before after : Outside) : Type 0 where
   pub words_are : IsSome (run_of words)
   pub unrefused : Tells before.source (λ script. refused_at script ≡ None)
   pub entries : ℕ

@@ -9,9 +9,10 @@ use Rattle.hv_history.specs.Legal.{IsLegal, profile}
 use Rattle.hv_history.specs.Journal.{Reads}
 use Rattle.hv_journal.specs.Appending.{ReadsMore}
 use Rattle.hv_script.specs.declared.actions.Action.{Action}
-use Rattle.hv_stands.specs.Files.{Stands}
+use Rattle.hv_law_made.specs.Opening.{whole_jobs}
+use Rattle.hv_law_made.specs.Standing.{Standing as Stands}
 use Rattle.hv_session.specs.hv_steps.specs.hv_table_reader.specs.hv_acts.specs.hv_telling.specs.hv_house.specs.declared.boot.BootFault.TheVariants as fault
-use Rattle.hv_session.specs.hv_steps.specs.hv_table_reader.specs.hv_acts.specs.hv_telling.specs.hv_house.specs.Booting.{opening_of, IsCutOpening}
+use Rattle.hv_session.specs.hv_steps.specs.hv_table_reader.specs.hv_acts.specs.hv_telling.specs.hv_house.specs.Booting.{opening_of, IsIdle, IsCutOpening}
 use Rattle.hv_session.specs.hv_steps.specs.hv_table_reader.specs.hv_acts.specs.hv_telling.specs.Telling.{OpensLater}
 use Rattle.hv_program.specs.Change.{Change, from_to}
 use Rattle.hv_program.specs.Doing.{Standing, IsDone, AreDone}
@@ -31,7 +32,8 @@ pub record HasBook (book : List Entry) (store : Store) : Type 0 where
 
 -- All actions were done: the replies of all of them were written, by the book that the store has now, and one of
 -- them is a refusal or none is.
-pub record IsServed (faults : Change ℕ) (start : List Entry) (actions : List Action) (written : Change (List ℕ)) (store : Store) (refused : Bool) : Type 0 where
+pub record IsServed (faults : Change ℕ) (start : List Entry) (actions : List Action) (written : Change (List ℕ))
+    (store : Store) (refused : Bool) : Type 0 where
   pub last : Standing
   pub is_book : IsBookOf faults.was faults.now start last.book
   pub has_book : HasBook last.book store
@@ -41,7 +43,8 @@ pub record IsServed (faults : Change ℕ) (start : List Entry) (actions : List A
 
 -- The replies of the actions in front of this one were written, and a front of its own reply. It was done; those
 -- behind it were not.
-pub record IsCutOff (faults : Change ℕ) (start : List Entry) (actions : List Action) (written : Change (List ℕ)) (store : Store) : Type 0 where
+pub record IsCutOff (faults : Change ℕ) (start : List Entry) (actions : List Action) (written : Change (List ℕ))
+    (store : Store) : Type 0 where
   pub front : List Action
   pub action : Action
   pub behind : List Action
@@ -61,7 +64,8 @@ pub record IsCutOff (faults : Change ℕ) (start : List Entry) (actions : List A
 -- The replies of the actions in front of this one were written. Its transaction has no end in the book; those behind it were not
 -- done. The store opens to the book, or to one that begins with it. `Keeps` says how the book stands in the journal, by where the run
 -- stood before the action.
-pub record IsStopped (faults : Change ℕ) (start : List Entry) (actions : List Action) (written : Change (List ℕ)) (after : Store) (Keeps : Standing → Action → List Entry → Type 0) : Type 0 where
+pub record IsStopped (faults : Change ℕ) (start : List Entry) (actions : List Action) (written : Change (List ℕ))
+    (after : Store) (Keeps : Standing → Action → List Entry → Type 0) : Type 0 where
   pub front : List Action
   pub action : Action
   pub behind : List Action
@@ -77,10 +81,12 @@ pub record IsStopped (faults : Change ℕ) (start : List Entry) (actions : List 
   pub keeps : Keeps before action book
   pub opens : OpensLater book after
 
--- No action was done, nothing was written, and no file was touched. The store opens again, to the book with a front of its opening.
-pub record IsUnopened (book : List Entry) (written : Change (List ℕ)) (stores : Change Store) (Keeps : List ℕ → Type 0) : Type 0 where
+-- No action was done, and nothing was written. Where no compaction was at work no file was touched. The store opens again, to the book with
+-- a front of its opening.
+pub record IsUnopened (book : List Entry) (written : Change (List ℕ)) (stores : Change Store)
+    (Keeps : List ℕ → Type 0) : Type 0 where
   pub wrote : written.now ≡ written.was
-  pub files : stores.now.tree ≡ stores.was.tree
+  pub files : IsIdle book → stores.now.tree ≡ stores.was.tree
   pub keeps : Keeps stores.now.journal
   pub opens : OpensLater book stores.now
 
@@ -91,8 +97,9 @@ ReadsTo bytes before action book = Reads book bytes
 -- for want of memory
 abbrev pub StopsForMemory : Change ℕ → List Entry → List Action → Change (List ℕ) → Change Store → Type 0
 StopsForMemory faults before actions written stores =
-    IsStopped faults (opening_of before) actions written stores.now (ReadsTo stores.now.journal)
-    ⊎ IsUnopened before written stores (IsCutOpening fault.NoMemory before)
+    IsStopped faults (opening_of stores.was.tree before) actions written stores.now (ReadsTo stores.now.journal)
+    ⊎ IsUnopened before written stores (IsCutOpening fault.NoMemory (whole_jobs (state_of before) stores.was.tree)
+    before)
 
 -- the journal reads to the book, or to the book and what further entries of a stopped action it may have
 abbrev pub ReadsFurther : List ℕ → Standing → Action → List Entry → Type 0
@@ -103,5 +110,5 @@ ReadsFurther bytes before action book =
 -- two by which a statement begins
 abbrev pub StopsForStore : Change ℕ → List Entry → List Action → Change (List ℕ) → Change Store → Type 0
 StopsForStore faults before actions written stores =
-    IsStopped faults (opening_of before) actions written stores.now (ReadsFurther stores.now.journal)
-    ⊎ IsUnopened before written stores (IsCutOpening fault.Store before)
+    IsStopped faults (opening_of stores.was.tree before) actions written stores.now (ReadsFurther stores.now.journal)
+    ⊎ IsUnopened before written stores (IsCutOpening fault.Store (whole_jobs (state_of before) stores.was.tree) before)

@@ -53,9 +53,11 @@ pub record IsBehind (start : List Entry) (now : Standing) : Type 0 where
   pub later : AllByRecursion (IsLater start) now.waiting
 
 -- the action was done, and this is its reply
-pub record Acts (low high : ℕ) (before now : Standing) (action : Action) (reply : List ℕ) (refused : Bool) : Type 0 where
+pub record Acts (low high : ℕ) (before now : Standing) (action : Action) (reply : List ℕ)
+    (refused : Bool) : Type 0 where
   pub grows : Grows low high before.book now.book
-  pub done : (start : List Entry) → IsBehind start before → IsDone (from_to start now.book) before now action reply refused
+  pub done : (start : List Entry) → IsBehind start before
+      → IsDone (from_to start now.book) before now action reply refused
 
 -- the transaction of an action: of a statement the next one, and of a release that of the statement that waits
 abbrev pub txn_of_waiting : Waiting → ℕ
@@ -93,7 +95,8 @@ pub record IsHalfway (before : Standing) (action : Action) (now : List Entry) : 
 -- an Opened is that of the statement that was to be run: of its session, with its number and its text
 abbrev pub OpensFor : Entry → Action → Type 0
 OpensFor (entry.Opened txn session number text) (action.Run statement) =
-    (session ≡ (asking_of statement).session) × (number ≡ (asking_of statement).number) × (text ≡ (asking_of statement).text)
+    (session ≡ (asking_of statement).session) × (number ≡ (asking_of statement).number)
+    × (text ≡ (asking_of statement).text)
 OpensFor (entry.Opened txn session number text) other = ⊥
 OpensFor event act = Unit {0}
 
@@ -123,17 +126,20 @@ AreFurther before action book further = IsFurther before action book further ⊎
 
 -- The journal reads to the book, and where the store failed, to the book or to the book and such further entries.
 abbrev pub LeavesFurther : HouseFault → Option Store → Standing → Action → List Entry → Type 0
-LeavesFurther why told before action now = (further : List Entry) × AreFurther before action now further × Leaves why further told now
+LeavesFurther why told before action now = (further : List Entry) × AreFurther before action now further
+    × Leaves why further told now
 
 -- the action wasn't done to its end
-pub record Stops (why : HouseFault) (told : Option Store) (before : Standing) (action : Action) (now : List Entry) : Type 0 where
+pub record Stops (why : HouseFault) (told : Option Store) (before : Standing) (action : Action)
+    (now : List Entry) : Type 0 where
   pub halfway : IsHalfway before action now
   pub leaves : LeavesFurther why told before action now
 
 -- ---- several
 
 -- the run stands there by these actions, and their replies were written
-pub record Prints (faults : Change ℕ) (start : List Entry) (now : Standing) (actions : List Action) (sinks : Change (Option (List ℕ))) (refused : Bool) : Type 0 where
+pub record Prints (faults : Change ℕ) (start : List Entry) (now : Standing) (actions : List Action)
+    (sinks : Change (Option (List ℕ))) (refused : Bool) : Type 0 where
   pub grows : Grows faults.was faults.now start now.book
   pub later : AllByRecursion (IsLater start) now.waiting
   pub output : List ℕ
@@ -149,7 +155,8 @@ abbrev pub EndsWithin : List ℕ → List ℕ → List ℕ → List ℕ → Type
 EndsWithin output reply before now = GainsPart reply (before ++ output) now
 
 -- the sink failed in the reply of this action
-pub record CutsOff (faults : Change ℕ) (start book : List Entry) (actions : List Action) (sinks : Change (Option (List ℕ))) : Type 0 where
+pub record CutsOff (faults : Change ℕ) (start book : List Entry) (actions : List Action)
+    (sinks : Change (Option (List ℕ))) : Type 0 where
   pub front : List Action
   pub action : Action
   pub behind : List Action
@@ -166,7 +173,8 @@ pub record CutsOff (faults : Change ℕ) (start book : List Entry) (actions : Li
   pub written : Moves (EndsWithin output reply) sinks.was sinks.now
 
 -- the run stopped in this action, for this reason
-pub record StopsIn (why : HouseFault) (told : Option Store) (faults : Change ℕ) (start book : List Entry) (actions : List Action) (sinks : Change (Option (List ℕ))) : Type 0 where
+pub record StopsIn (why : HouseFault) (told : Option Store) (faults : Change ℕ) (start book : List Entry)
+    (actions : List Action) (sinks : Change (Option (List ℕ))) : Type 0 where
   pub front : List Action
   pub action : Action
   pub behind : List Action
@@ -184,8 +192,12 @@ abbrev pub HasAll : List Entry → Store → Type 0
 HasAll book store = Reads book store.journal × IsFaithful book store
 
 -- the reasons for which a run stops, and what each leaves
-abbrev pub Halts : Stop → Change ℕ → List Entry → List Entry → List Action → Change (Option (List ℕ)) → Option Store → Type 0
+abbrev pub Halts : Stop → Change ℕ → List Entry → List Entry → List Action → Change (Option (List ℕ)) → Option Store
+    → Type 0
 Halts stop.Source faults start book actions sinks told = ⊥
-Halts stop.Sink faults start book actions sinks told = CutsOff faults start book actions sinks × IsSomeAnd told (HasAll book)
-Halts stop.Store faults start book actions sinks told = StopsIn fault.Store told faults start book actions sinks × IsSomeAnd told (OpensLater book)
-Halts stop.NoMemory faults start book actions sinks told = StopsIn fault.NoMemory told faults start book actions sinks × IsSomeAnd told (OpensLater book)
+Halts stop.Sink faults start book actions sinks told = CutsOff faults start book actions sinks
+    × IsSomeAnd told (HasAll book)
+Halts stop.Store faults start book actions sinks told = StopsIn fault.Store told faults start book actions sinks
+    × IsSomeAnd told (OpensLater book)
+Halts stop.NoMemory faults start book actions sinks told = StopsIn fault.NoMemory told faults start book actions sinks
+    × IsSomeAnd told (OpensLater book)

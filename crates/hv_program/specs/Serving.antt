@@ -29,11 +29,13 @@ pub record IsCutFull (book : List Entry) (written : Change (List ℕ)) (stores :
   pub store_same : stores.now ≡ stores.was
 
 -- what was written, what the book has, and which files stand, by the status
-pub record ServedOf (status : ℕ) (faults : Change ℕ) (book : List Entry) (actions : List Action) (written : Change (List ℕ)) (stores : Change Store) : Type 0 where
-  pub accepted : status ≡ 0 → IsServed faults (opening_of book) actions written stores.now false
-  pub refused : status ≡ 1 → IsServed faults (opening_of book) actions written stores.now true
+pub record ServedOf (status : ℕ) (faults : Change ℕ) (book : List Entry) (actions : List Action)
+    (written : Change (List ℕ)) (stores : Change Store) : Type 0 where
+  pub accepted : status ≡ 0 → IsServed faults (opening_of stores.was.tree book) actions written stores.now false
+  pub refused : status ≡ 1 → IsServed faults (opening_of stores.was.tree book) actions written stores.now true
   pub source : status ≡ 3 → ⊥
-  pub sink : status ≡ 4 → IsCutOff faults (opening_of book) actions written stores.now ⊎ IsCutFull book written stores
+  pub sink : status ≡ 4 → IsCutOff faults (opening_of stores.was.tree book) actions written stores.now
+      ⊎ IsCutFull book written stores
   pub store : status ≡ 5 → StopsForStore faults book actions written stores
   pub memory : status ≡ 7 → StopsForMemory faults book actions written stores
 
@@ -48,8 +50,10 @@ pub record BothTell (sink : Option (List ℕ)) (told : Option Store) (Is : List 
 -- over a store that opens to a book
 abbrev pub Serves : ℕ → Change ℕ → List Action → Change (Option (List ℕ)) → Change (Option Store) → Type 0
 Serves status faults actions sinks told =
-    (written : List ℕ) (store : Store) (book : List Entry) → sinks.was ≡ Some written → told.was ≡ Some store → OpensTo book store
-    → BothTell sinks.now told.now (λ now after. ServedOf status faults book actions (from_to written now) (from_to store after))
+    (written : List ℕ) (store : Store) (book : List Entry) → sinks.was ≡ Some written → told.was ≡ Some store
+    → OpensTo book store
+    → BothTell sinks.now told.now (λ now after. ServedOf status faults book actions (from_to written now)
+    (from_to store after))
 
 -- the sink and the store are blamed only where they failed
 pub record BlamesOf (status sink sink' store store' : ℕ) : Type 0 where
@@ -74,14 +78,16 @@ IsSaidOrNot wanted line sink sink' faults faults' status =
     IsSaid wanted line sink sink' faults faults' status ⊎ ((status ≡ 7) × (sink' ≡ sink))
 
 -- a journal that is bad, and one that is full, is refused, and the store is then as it was; its line was written, or a front of it
-pub record IsClosed (Gained : List ℕ → List ℕ → List ℕ → Type 0) (sink sink' : Option (List ℕ)) (told told' : Option Store) : Type 0 where
+pub record IsClosed (Gained : List ℕ → List ℕ → List ℕ → Type 0) (sink sink' : Option (List ℕ))
+    (told told' : Option Store) : Type 0 where
   pub at : ℕ
   pub journal : Tells told (λ s. IsBadJournalAt profile s.journal at)
   pub shut : Tells told (HasNoBook profile)
   pub same : told' ≡ told
   pub wrote : Moves (Gained (journal_line at)) sink sink'
 
-pub record IsFilled (Gained : List ℕ → List ℕ → List ℕ → Type 0) (sink sink' : Option (List ℕ)) (told told' : Option Store) : Type 0 where
+pub record IsFilled (Gained : List ℕ → List ℕ → List ℕ → Type 0) (sink sink' : Option (List ℕ))
+    (told told' : Option Store) : Type 0 where
   pub entries : ℕ
   pub journal : Tells told (λ s. IsFullAt profile entries s.journal)
   pub shut : Tells told (HasFullBook profile)
@@ -92,6 +98,7 @@ pub record Opens (sink sink' : Option (List ℕ)) (told told' : Option Store) (s
   pub bad : status ≡ 6 → IsClosed Gains sink sink' told told'
   pub full : status ≡ 9 → IsFilled Gains sink sink' told told'
   -- a front of such a line was written, or actions were done
-  pub cut : status ≡ 4 → IsClosed GainsPart sink sink' told told' ⊎ IsFilled GainsPart sink sink' told told' ⊎ Tells told (CanOpen profile)
+  pub cut : status ≡ 4 → IsClosed GainsPart sink sink' told told' ⊎ IsFilled GainsPart sink sink' told told'
+      ⊎ Tells told (CanOpen profile)
   pub opened : IsTrue (is_one_of (0 ∷ 1 ∷ []) status) → Tells told (CanOpen profile)
   pub only : IsTrue (is_one_of (0 ∷ 1 ∷ 4 ∷ 5 ∷ 6 ∷ 7 ∷ 9 ∷ []) status)

@@ -2,7 +2,7 @@ ghost use Rattle.std.specs.Prelude.{◌≡◌, ◌≤◌, [], None, false, IfOk,
 ghost use Rattle.hv_actor.specs.Acting.{IsLater};
 ghost use Rattle.hv_session.specs.hv_steps.specs.hv_table_reader.specs.hv_acts.specs.Told.{seen_in};
 ghost use Rattle.hv_script.specs.declared.actions.Action.TheVariants as action;
-ghost use Rattle.hv_session.specs.hv_steps.specs.hv_table_reader.specs.hv_acts.specs.hv_telling.specs.hv_house.specs.Faults.{EndsRun, FileCause};
+ghost use Rattle.hv_session.specs.hv_steps.specs.hv_table_reader.specs.hv_acts.specs.hv_telling.specs.hv_house.specs.Faults.{FileCause};
 ghost use Rattle.hv_session.specs.hv_steps.specs.hv_table_reader.specs.hv_acts.specs.hv_telling.specs.hv_house.specs.House.{entries_of};
 ghost use Rattle.hv_session.specs.hv_steps.specs.hv_table_reader.specs.hv_acts.specs.hv_telling.specs.hv_house.specs.Housed.{ShutsHard};
 ghost use Rattle.hv_stands.specs.Running.{next_number};
@@ -81,14 +81,15 @@ fn take<D: Shelf + Drop>(
         (D.faults house.old.house.shelf) (D.faults house.new.house.shelf)
         (entries_of house.old.house) (entries_of house.new.house)) }
     ensures later { IfOk result (λ _. IsLater D.faults (seen_in house.old) (seen_in house.new)) }
-    ensures held { IfOk result (IsKeptIn (entries_of house.old.house) (entries_of house.new.house) (asking_of statement.now)) }
+    ensures held { IfOk result (IsKeptIn (entries_of house.old.house) (entries_of house.new.house)
+        (asking_of statement.now)) }
     ensures can { IfOk result (CanFinishTaken D.told house.new) }
     ensures taken { IsToldHouse D.told house.old.house → IfOk result (IsTakenAs
         (entries_of house.old.house) (entries_of house.new.house) (asking_of statement.now) statement.now.hold) }
     ensures start { house.new.house.start ≡ house.old.house.start }
-    ensures stopped { IfErr result (λ why. StopsTaken D.told (asking_of statement.now) why house.old.house house.new.house) }
+    ensures stopped { IfErr result (λ why. StopsTaken D.told (asking_of statement.now) why house.old.house
+        house.new.house) }
     ensures opens { IsToldHouse D.told house.old.house → IfErr result (λ _. StillOpens D.told house.new.house) }
-    ensures ends { IfErr result EndsRun }
     ensures cause { FileCause (D.faults house.old.house.shelf) (D.faults house.new.house.shelf) result }
     ensures hard { ShutsHard D.hard (seen_in house.new) }
     ensures shut { IfErr result (IsShutFor house.new) }
@@ -124,7 +125,6 @@ fn run_statement<D: Shelf + Drop>(
     ensures stopped { IfErr result (λ why. Stops why (D.told house.new.house.shelf)
         (standing_of house.old.house held.old.items) (action.Run statement.now) (entries_of house.new.house)) }
     ensures opens { IsToldHouse D.told house.old.house → IfErr result (λ _. StillOpens D.told house.new.house) }
-    ensures ends { IfErr result EndsRun }
     ensures cause { FileCause (D.faults house.old.house.shelf) (D.faults house.new.house.shelf) result }
     ensures hard { ShutsHard D.hard (seen_in house.new) }
     ensures shut { IfErr result (IsShutFor house.new) }
@@ -164,7 +164,6 @@ fn release<D: Shelf + Drop>(
     ensures stopped { IfErr result (λ why. Stops why (D.told house.new.house.shelf)
         (standing_of house.old.house held.old.items) (action.Release session.now) (entries_of house.new.house)) }
     ensures opens { IsToldHouse D.told house.old.house → IfErr result (λ _. StillOpens D.told house.new.house) }
-    ensures ends { IfErr result EndsRun }
     ensures cause { FileCause (D.faults house.old.house.shelf) (D.faults house.new.house.shelf) result }
     ensures hard { ShutsHard D.hard (seen_in house.new) }
     ensures shut { IfErr result (IsShutFor house.new) }
@@ -200,7 +199,6 @@ pub fn act<D: Shelf + Drop>(
     ensures stopped { IfErr result (λ why. Stops why (D.told house.new.house.shelf)
         (standing_of house.old.house held.old.items) action.now (entries_of house.new.house)) }
     ensures opens { IsToldHouse D.told house.old.house → IfErr result (λ _. StillOpens D.told house.new.house) }
-    ensures ends { IfErr result EndsRun }
     ensures cause { FileCause (D.faults house.old.house.shelf) (D.faults house.new.house.shelf) result }
     ensures hard { ShutsHard D.hard (seen_in house.new) }
     ensures shut { IfErr result (IsShutFor house.new) }

@@ -2,7 +2,7 @@
 ghost use Rattle.std.specs.Prelude.{◌≡◌, ◌≤◌, length, IfOk, IfErr};
 ghost use Rattle.hv_actor.specs.Acting.{IsLater};
 ghost use Rattle.hv_session.specs.hv_steps.specs.hv_table_reader.specs.hv_acts.specs.Told.{seen_in};
-ghost use Rattle.hv_session.specs.hv_steps.specs.hv_table_reader.specs.hv_acts.specs.hv_telling.specs.hv_house.specs.Faults.{EndsRun, FileCause};
+ghost use Rattle.hv_session.specs.hv_steps.specs.hv_table_reader.specs.hv_acts.specs.hv_telling.specs.hv_house.specs.Faults.{FileCause};
 ghost use Rattle.hv_session.specs.hv_steps.specs.hv_table_reader.specs.hv_acts.specs.hv_telling.specs.hv_house.specs.House.{entries_of};
 ghost use Rattle.hv_session.specs.hv_steps.specs.hv_table_reader.specs.hv_acts.specs.hv_telling.specs.hv_house.specs.Housed.{ShutsHard};
 ghost use Rattle.hv_stands.specs.Running.{next_number};
@@ -50,7 +50,6 @@ pub fn take_alone<D: Shelf + Drop>(
     ensures start { house.new.house.start ≡ house.old.house.start }
     ensures stopped { IfErr result (λ why. StopsTaken D.told (asked_of asking) why house.old.house house.new.house) }
     ensures opens { IsToldHouse D.told house.old.house → IfErr result (λ _. StillOpens D.told house.new.house) }
-    ensures ends { IfErr result EndsRun }
     ensures cause { FileCause (D.faults house.old.house.shelf) (D.faults house.new.house.shelf) result }
     ensures hard { ShutsHard D.hard (seen_in house.new) }
     ensures shut { IfErr result (IsShutFor house.new) }
@@ -74,11 +73,11 @@ pub fn finish_alone<D: Shelf + Drop>(
         (entries_of house.old.house) (entries_of house.new.house)) }
     ensures later { IfOk result (λ _. IsLater D.faults (seen_in house.old) (seen_in house.new)) }
     ensures finished { IsToldHouse D.told house.old.house → IfOk result (λ reply. IsFinished
-        (entries_of house.old.house) (entries_of house.new.house) paused.way.txn.0 reply.text reply.refused reply.ended) }
+        (entries_of house.old.house) (entries_of house.new.house) paused.way.txn.0 reply.text
+        reply.refused reply.ended) }
     ensures start { house.new.house.start ≡ house.old.house.start }
     ensures stopped { IfErr result (λ why. HasStopped D.told paused.way.txn.0 why house.old.house house.new.house) }
     ensures opens { IsToldHouse D.told house.old.house → IfErr result (λ _. StillOpens D.told house.new.house) }
-    ensures ends { IfErr result EndsRun }
     ensures cause { FileCause (D.faults house.old.house.shelf) (D.faults house.new.house.shelf) result }
     ensures hard { ShutsHard D.hard (seen_in house.new) }
     ensures shut { IfErr result (IsShutFor house.new) }

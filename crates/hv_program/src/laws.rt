@@ -10,15 +10,22 @@ ghost use Rattle.hv_program.specs.Results.{IsServed, IsCutOff, IsStopped, ReadsT
 /// noted by then. A run that stopped in its opening leaves a front of that behind the book.
 pub fn opens_again()
     ensures done { (low high : ℕ) (start : List Entry) (actions : List Action) (written now : List ℕ) (store : Store)
-        (refused : Bool) → IsServed (from_to low high) start actions (from_to written now) store refused → OpensLater start store }
+        (refused : Bool) → IsServed (from_to low high) start actions (from_to written now) store refused
+        → OpensLater start store }
     ensures cut { (low high : ℕ) (start : List Entry) (actions : List Action) (written now : List ℕ) (store : Store)
         → IsCutOff (from_to low high) start actions (from_to written now) store → OpensLater start store }
     ensures stopped { (low high : ℕ) (start : List Entry) (actions : List Action) (written now : List ℕ) (store : Store)
-        → IsStopped (from_to low high) start actions (from_to written now) store (ReadsFurther store.journal) → OpensLater start store }
+        → IsStopped (from_to low high) start actions (from_to written now) store (ReadsFurther store.journal)
+        → OpensLater start store }
     ensures ran_out { (low high : ℕ) (start : List Entry) (actions : List Action) (written now : List ℕ) (store : Store)
-        → IsStopped (from_to low high) start actions (from_to written now) store (ReadsTo store.journal) → OpensLater start store }
-    ensures failed { (low high : ℕ) (book : List Entry) (actions : List Action) (written now : List ℕ) (before store : Store)
-        → StopsForStore (from_to low high) book actions (from_to written now) (from_to before store) → OpensLater book store }
-    ensures lacked { (low high : ℕ) (book : List Entry) (actions : List Action) (written now : List ℕ) (before store : Store)
-        → StopsForMemory (from_to low high) book actions (from_to written now) (from_to before store) → OpensLater book store }
+        → IsStopped (from_to low high) start actions (from_to written now) store (ReadsTo store.journal)
+        → OpensLater start store }
+    ensures failed { (low high : ℕ) (book : List Entry) (actions : List Action) (written now : List ℕ)
+        (before store : Store)
+        → StopsForStore (from_to low high) book actions (from_to written now) (from_to before store)
+        → OpensLater book store }
+    ensures lacked { (low high : ℕ) (book : List Entry) (actions : List Action) (written now : List ℕ)
+        (before store : Store)
+        → StopsForMemory (from_to low high) book actions (from_to written now) (from_to before store)
+        → OpensLater book store }
 {}

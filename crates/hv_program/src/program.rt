@@ -1,13 +1,12 @@
 ghost use Rattle.std.specs.Prelude.{◌≡◌, ◌≤◌, [], ◌∷◌, length, map};
 ghost use Rattle.std.specs.List.{AllByRecursion};
 ghost use Rattle.std.specs.String.{string_bytes};
-ghost use Rattle.hv_base.specs.Faults.{Rose};
 ghost use Rattle.hv_base.specs.Told.{StaysTold};
 ghost use Rattle.hv_program.specs.Change.{from_to};
 ghost use Rattle.hv_program.specs.Headline.{Headline};
 ghost use Rattle.hv_program.specs.Lines.{script_line, journal_line, full_line};
 ghost use Rattle.hv_program.specs.Refused.{is_one_of, Refuses};
-ghost use Rattle.hv_program.specs.Causes.{HasCauses, Completes};
+ghost use Rattle.hv_program.specs.Causes.{FailsStore, HasCauses, Completes};
 ghost use Rattle.hv_program.specs.Running.{IsFine};
 ghost use Rattle.hv_program.specs.Serving.{ran_status, Serves, BlamesOf, IsSaid, IsSaidOrNot, Opens};
 
@@ -107,7 +106,8 @@ fn serve<O: Sink, D: Shelf + Drop>(
         (D.told shelf) (D.told result.shelf) result.status }
     ensures blames { BlamesOf result.status (O.faults sink.old) (O.faults sink.new)
         (D.faults shelf) (D.faults result.shelf) }
-    ensures hard { result.status ≡ 5 → Rose (D.hard shelf) (D.hard result.shelf) }
+    ensures hard { result.status ≡ 5 → FailsStore (D.hard shelf) (D.hard result.shelf)
+        (from_to (D.told shelf) (D.told result.shelf)) }
     ensures heard { StaysTold (O.written sink.old) (O.written sink.new) }
 {
     match House::boot(alloc, shelf, LIMITS) {
@@ -180,7 +180,7 @@ pub fn hive<R: Threads + Wait + Sync, I: Source, O: Sink, D: Shelf + Send + Drop
           sink = O.faults sink.new;
           store = D.faults result.shelf;
           hard = D.hard result.shelf;
-        }) result.status }
+        }) (from_to (D.told shelf) (D.told result.shelf)) result.status }
     ensures complete { Completes (map string_bytes words.now)
         (record { source = I.left source.old; sink = O.written sink.old; store = D.told shelf })
         (record {

@@ -115,6 +115,13 @@ fits-of s (entry.Abort id why) txn fits whose = there s id.0 txn (CauseFits prof
 fits-of s (entry.Create id table) txn fits whose = there s id.0 txn (CreateFits s table.0) whose fits
 fits-of s (entry.Drop id table) txn fits whose = there s id.0 txn (DropFits s table.0) whose fits
 fits-of s (entry.Boot run) txn fits whose = let never : None ≡ Some txn = whose in let wrong : ⊥ = cc in absurd wrong
+fits-of s (entry.Asked job table partition kind by_) txn fits whose = let never : None ≡ Some txn = whose in let wrong : ⊥ = cc in absurd wrong
+fits-of s (entry.Picked job mark) txn fits whose = let never : None ≡ Some txn = whose in let wrong : ⊥ = cc in absurd wrong
+fits-of s (entry.Published job low high mark) txn fits whose = let never : None ≡ Some txn = whose in let wrong : ⊥ = cc in absurd wrong
+fits-of s (entry.Empty job) txn fits whose = let never : None ≡ Some txn = whose in let wrong : ⊥ = cc in absurd wrong
+fits-of s (entry.Cleaned job) txn fits whose = let never : None ≡ Some txn = whose in let wrong : ⊥ = cc in absurd wrong
+fits-of s (entry.Failed job why) txn fits whose = let never : None ≡ Some txn = whose in let wrong : ⊥ = cc in absurd wrong
+fits-of s (entry.Forgot table write) txn fits whose = let never : None ≡ Some txn = whose in let wrong : ⊥ = cc in absurd wrong
 fits-of s event txn fits whose = absurd fits
 
 -- so the first of its entries has the next number, where that is no lower
@@ -488,7 +495,6 @@ module _ {D : Type 0} (told : D → Option Store) (faults : D → ℕ) (B : List
                 (subst (λ (b : List Entry). Leaves fault.Store (beginning_of b asking) (told now.house.shelf) b) there_ shut.cut.leaves);
           }));
           opens = λ is. kept.opens (told-stays told before.house now.house gained.start is);
-          ends = tt;
           cause = record { later = gained.later; failed = adds.later.rises running shut.is };
         }
 
@@ -509,7 +515,6 @@ module _ {D : Type 0} (told : D → Option Store) (faults : D → ℕ) (B : List
                 (subst (λ (b : List Entry). Leaves fault.Store (opening b asking ∷ []) (told now.house.shelf) b) there_ shut.cut.leaves);
           }));
           opens = λ is. kept.opens (told-stays told before.house now.house gained.start is);
-          ends = tt;
           cause = record { later = gained.later; failed = adds.later.rises running shut.is };
         }
 

@@ -270,7 +270,6 @@ module _ {D : Type 0} (told : D → Option Store) (faults : D → ℕ) (B : List
             start = gained.start;
             stopped = tt;
             opens = λ told_is. tt;
-            ends = tt;
             cause = record { later = gained.later; failed = tt };
           };
           held = away.own;

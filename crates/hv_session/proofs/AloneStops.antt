@@ -9,7 +9,7 @@ use Rattle.hv_trail.specs.Trail.{book_of}
 use Rattle.hv_actor.specs.Acting.{IsAlone, among, known}
 use Rattle.hv_steps.specs.hv_table_reader.specs.hv_acts.specs.hv_telling.specs.hv_house.specs.declared.fault.HouseFault.{HouseFault}
 use Rattle.hv_steps.specs.hv_table_reader.specs.hv_acts.specs.hv_telling.specs.hv_house.specs.declared.fault.HouseFault.TheVariants as fault
-use Rattle.hv_steps.specs.hv_table_reader.specs.hv_acts.specs.hv_telling.specs.hv_house.specs.Faults.{EndsRun, HasRisen}
+use Rattle.hv_steps.specs.hv_table_reader.specs.hv_acts.specs.hv_telling.specs.hv_house.specs.Faults.{HasRisen}
 use Rattle.hv_steps.specs.hv_table_reader.specs.hv_acts.specs.hv_telling.specs.hv_house.specs.House.{entries_of, Leaves}
 use Rattle.hv_steps.specs.hv_table_reader.specs.hv_acts.specs.hv_telling.specs.Telling.{IsWhole}
 use Rattle.hv_steps.specs.hv_table_reader.specs.hv_acts.specs.hv_telling.proofs.Told.{told-stays}
@@ -17,7 +17,7 @@ use Rattle.hv_steps.specs.hv_table_reader.specs.hv_acts.specs.declared.told.Told
 use Rattle.hv_steps.specs.hv_table_reader.specs.hv_acts.specs.Told.{IsWholeOrClosed, book_in}
 use Rattle.hv_steps.specs.hv_table_reader.specs.hv_acts.proofs.Steps.{book-is}
 use Rattle.hv_steps.specs.Ending.{HasStopped}
-use Rattle.hv_steps.specs.Going.{faults_in, IsOpenHouse, IsShutHouse, IsShutBetween, IsShutNow, HaltsFor, Halts, Goes}
+use Rattle.hv_steps.specs.Going.{faults_in, IsOpenHouse, IsShutHouse, IsShutBetween, IsShutNow, Halts, Goes}
 use Rattle.hv_session.specs.Alone.{AddsNothing, HasGained, StopsAlone, OpensAlone}
 use Rattle.hv_session.specs.Ways.{IsPart, Anyhow, PartsAlone}
 use Rattle.hv_session.proofs.AloneBooks.{adds-alone, gains-of, legal-behind}
@@ -84,11 +84,6 @@ module _ {D : Type 0} (told : D → Option Store) (faults : D → ℕ) (B : List
   opens-alone txn own own' before now why kept halts is =
       kept.opens (told-stays told before.house now.house (adds-alone faults B none own own' before now halts.added halts.adds).start is)
 
-  halts-end : (txn : ℕ) (now : ToldHouse D) (why : HouseFault) → HaltsFor told meanwhile txn now why → EndsRun why
-  halts-end txn now fault.Store halts = tt
-  halts-end txn now fault.NoMemory halts = tt
-  halts-end txn now (fault.Failed count) halts = halts
-
   -- where the store failed its count rose, since the house was open before
   shut-there : (txn : ℕ) (now : ToldHouse D) → IsShutBetween meanwhile ⊎ IsShutNow told txn now → IsShutHouse now
   shut-there txn now (inl between) = absurd (never-between meanwhile alone between)
@@ -115,7 +110,6 @@ module _ {D : Type 0} (told : D → Option Store) (faults : D → ℕ) (B : List
         start = gained.start;
         stopped = tt;
         opens = λ is. tt;
-        ends = tt;
         cause = record { later = gained.later; failed = tt };
       }
   parts-alone T txn own own' before now Is (Err why) open_ kept goes =
@@ -125,7 +119,6 @@ module _ {D : Type 0} (told : D → Option Store) (faults : D → ℕ) (B : List
         start = gained.start;
         stopped = stops-alone txn own own' before now why kept goes.halted;
         opens = opens-alone txn own own' before now why kept goes.halted;
-        ends = halts-end txn now why goes.halted.halts;
         cause = record { later = gained.later; failed = risen-alone txn own own' before now why open_ goes.halted };
       }
 

@@ -1,6 +1,6 @@
 -- A held statement that others have ended, and one that goes on to its reply.
 use Rattle.std.proofs.Common.{◌≡◌, ◌⊎◌, inl, inr, ℕ, true, Option, Some, None, List, [], ◌∷◌, ◌++◌, length, refl, sym, ap, ◌∙◌, subst, append-nil, option_map, Ok, Err, Result}
-use Rattle.std.specs.Prelude.{IfOk, IfErr, IsSomeAnd, option_and_then}
+use Rattle.std.specs.Prelude.{IfOk, IsSomeAnd, option_and_then}
 use Rattle.std.specs.List.{slice_get}
 use Rattle.hv_shelf.specs.Disk.{Store}
 use Rattle.hv_history.specs.declared.entry.Entry.{Entry}
@@ -18,7 +18,6 @@ use Rattle.hv_meta.specs.States.{state_by, transaction_state}
 use Rattle.hv_trail.specs.declared.trail.TrailItem.{TrailItem}
 use Rattle.hv_trail.specs.Trail.{book_of}
 use Rattle.hv_actor.specs.Acting.{AreRows, among, known}
-use Rattle.hv_steps.specs.hv_table_reader.specs.hv_acts.specs.hv_telling.specs.hv_house.specs.Faults.{EndsRun}
 use Rattle.hv_steps.specs.hv_table_reader.specs.hv_acts.specs.hv_telling.specs.hv_house.specs.declared.fault.HouseFault.{HouseFault}
 use Rattle.hv_steps.specs.hv_table_reader.specs.hv_acts.specs.hv_telling.specs.hv_house.specs.House.{entries_of}
 use Rattle.hv_steps.specs.hv_table_reader.specs.hv_acts.specs.hv_telling.specs.Telling.{IsToldHouse}
@@ -231,13 +230,6 @@ module _ {D : Type 0} (told : D → Option Store) (faults : D → ℕ) (B : List
       → Goes (among told faults B meanwhile) (faults_in faults a) paused.way.txn.0 (known own a) (known own' b) (FinishesSo told b paused) (Err why)
   unasked-goes own own' a b why adds halts =
       record { done = tt; halted = halts-none faults B rows told meanwhile paused.way.txn.0 own own' a b why adds halts }
-
-replied-ends : (found : Result Done HouseFault) → IfErr found EndsRun → IfErr (replied_of found) EndsRun
-replied-ends (Ok found) ends = tt
-replied-ends (Err why) ends = ends
-
-pub ends-replied : (found : Result Done HouseFault) (result : Result Reply HouseFault) → result ≡ replied_of found → IfErr found EndsRun → IfErr result EndsRun
-ends-replied found result e ends = subst (λ (r : Result Reply HouseFault). IfErr r EndsRun) (sym e) (replied-ends found ends)
 
 pub said-truly : {D : Type 0} (house : ToldHouse D) (txn : ℕ) (said : Option Reply) (reply : Reply) → said ≡ Some reply → SaysEnd (trail_in house) txn said
     → RepliesTruly txn house reply

@@ -29,7 +29,6 @@ use Rattle.hv_trail.proofs.LastingLaws.{book-append, goes-on-front}
 use Rattle.hv_actor.specs.Acting.{IsLater, Went, AreRows, among, known, Moment, Held}
 use Rattle.hv_steps.specs.hv_table_reader.specs.hv_acts.specs.hv_telling.specs.hv_house.specs.declared.fault.HouseFault.{HouseFault}
 use Rattle.hv_steps.specs.hv_table_reader.specs.hv_acts.specs.hv_telling.specs.hv_house.specs.declared.fault.HouseFault.TheVariants as fault
-use Rattle.hv_steps.specs.hv_table_reader.specs.hv_acts.specs.hv_telling.specs.hv_house.specs.Faults.{EndsRun}
 use Rattle.hv_steps.specs.hv_table_reader.specs.hv_acts.specs.declared.told.ToldHouse.{ToldHouse}
 use Rattle.hv_steps.specs.hv_table_reader.specs.hv_acts.specs.declared.opening.Begun.{Begun}
 use Rattle.hv_steps.specs.hv_table_reader.specs.hv_acts.specs.declared.starting.Started.{Started}
@@ -310,14 +309,12 @@ module _ {D : Type 0} (told : D → Option Store) (faults : D → ℕ) (B : List
             between-held (IsNextAt txn) before now _ _ _ held refl,
           );
           halted = tt;
-          ends = tt;
         }
     at-once runs running (Err (hindered_by.House fault.Store)) went held = record {
       done = tt;
       halted = begin-shut (λ whose. begin-adds (Err (hindered_by.House fault.Store)) [] [] held went refl tt tt)
           (held.step.closed ∙ or-true held.house.house.trail.closed)
           (shut-found told faults meanwhile goes before now _ _ (IsBeginningCut told asking) held running (λ open_. (held.does_it.1 open_).0));
-      ends = tt;
     }
     at-once runs running (Err (hindered_by.House (fault.Failed count))) went held = absurd held.does_it.1
 
@@ -410,7 +407,6 @@ module _ {D : Type 0} (told : D → Option Store) (faults : D → ℕ) (B : List
                 (between-held (IsNextAt txn) before now _ _ _ held refl),
           );
           halted = tt;
-          ends = tt;
         }
     opens-so runs running (Err (act.House fault.NoMemory)) went held was =
         let txn : ℕ = next_number (book_of (trail_in held.house)) in
@@ -424,14 +420,12 @@ module _ {D : Type 0} (told : D → Option Store) (faults : D → ℕ) (B : List
                 (between-held (IsNextAt txn) before now _ _ _ held refl),
           );
           halted = tt;
-          ends = tt;
         }
     opens-so runs running (Err (act.House fault.Store)) went held was = record {
       done = tt;
       halted = open-shut held was
           (λ by. hindered-none {by = by} was (open-adds {by = by} before now own own' asking (Err (act.House fault.Store)) [] [] held went refl tt tt))
           (shut-found told faults meanwhile goes before now _ _ (IsOpeningCut told asking) held running (λ open_. (held.does_it.1 open_).0));
-      ends = tt;
     }
     opens-so runs running (Err (act.House (fault.Failed count))) went held was = absurd held.step.may
     opens-so runs running (Err (act.Ended at)) went held was = absurd held.does_it.0
@@ -644,13 +638,12 @@ module _ {D : Type 0} (told : D → Option Store) (faults : D → ℕ) (B : List
             (next-opened first before asking txn was.event was.was_opened),
       );
       halted = tt;
-      ends = tt;
     }
 
-    pub lacks-halted : (txn : ℕ) (why : HouseFault) → Halts (among told faults B meanwhile) txn (known own before) (known own' now) why → EndsRun why
+    pub lacks-halted : (txn : ℕ) (why : HouseFault) → Halts (among told faults B meanwhile) txn (known own before) (known own' now) why
         → OpenedFirst faults B asking txn said (known own0 first) (known own before)
         → GoesBeginning (among told faults B meanwhile) asking said (known own0 first) (known own' now) (Err why)
-    lacks-halted txn why halts ends was = record {
+    lacks-halted txn why halts was = record {
       done = tt;
       halted = inl (
         txn,
@@ -658,7 +651,6 @@ module _ {D : Type 0} (told : D → Option Store) (faults : D → ℕ) (B : List
             (next-opened first before asking txn was.event was.was_opened),
         halts-opened txn why was halts,
       );
-      ends = ends;
     }
 
   -- ---- answers, as they are put together
@@ -670,13 +662,12 @@ module _ {D : Type 0} (told : D → Option Store) (faults : D → ℕ) (B : List
     done = subst (λ (o : Opened). GainsSome faults B (faults_in faults first) (known own0 first) (known own' now) (Begins first now asking said o)) (sym is)
         starts;
     halted = tt;
-    ends = tt;
   }
 
   pub gone-goes : (first now : ToldHouse D) (own0 own' : List ℕ) (asking : Asking) (said : Stmt) (found : Opened)
       → GainsSome faults B (faults_in faults first) (known own0 first) (known own' now) (Begins first now asking said found)
       → GoesBeginning (among told faults B meanwhile) asking said (known own0 first) (known own' now) (Ok found)
-  gone-goes first now own0 own' asking said found gained = record { done = gained; halted = tt; ends = tt }
+  gone-goes first now own0 own' asking said found gained = record { done = gained; halted = tt }
 
   -- memory lacked before it was opened
   pub hindered-lacks : (first now : ToldHouse D) (own0 own' : List ℕ) (asking : Asking) (said : Stmt)
@@ -691,7 +682,6 @@ module _ {D : Type 0} (told : D → Option Store) (faults : D → ℕ) (B : List
           between-first (IsNextAt txn) first now (adds-front faults B rows own0 own' first now [] (was.adds txn)) refl,
         );
         halted = tt;
-        ends = tt;
       }
 
   -- and before anything was done

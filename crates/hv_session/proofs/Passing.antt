@@ -92,7 +92,6 @@ module _ {D : Type 0} (told : D → Option Store) (faults : D → ℕ) (txn : �
     start = part.start ∙ passed.start;
     stopped = tt;
     opens = λ is. tt;
-    ends = tt;
     cause = cause-from (faults before.shelf) (faults between.shelf) (faults now.shelf) passed.later (Ok x) part.cause;
   }
   part-behind (Err why) part = record {
@@ -100,7 +99,6 @@ module _ {D : Type 0} (told : D → Option Store) (faults : D → ℕ) (txn : �
     start = part.start ∙ passed.start;
     stopped = stopped-behind why part.stopped;
     opens = λ is. part.opens (told-stays told before between passed.start is);
-    ends = part.ends;
     cause = cause-from (faults before.shelf) (faults between.shelf) (faults now.shelf) passed.later (Err why) part.cause;
   }
 
@@ -120,7 +118,6 @@ passed-part told faults txn before now x passed = record {
   start = passed.start;
   stopped = tt;
   opens = λ is. tt;
-  ends = tt;
   cause = record { later = passed.later; failed = tt };
 }
 
@@ -134,13 +131,12 @@ module _ {D T : Type 0} (told : D → Option Store) (faults : D → ℕ) (asking
   pub part-taking : (result : Result T HouseFault) → IsPart told faults (next_number (entries_of before)) before now result → IfErr result (Begins asking before now)
       → IsTaking told faults asking before now result
   part-taking (Ok x) part begins =
-      record { done = part.done; start = part.start; stopped = tt; opens = λ is. tt; ends = tt; cause = part.cause }
+      record { done = part.done; start = part.start; stopped = tt; opens = λ is. tt; cause = part.cause }
   part-taking (Err why) part begins = record {
     done = tt;
     start = part.start;
     stopped = inl (part.stopped, begins part.stopped.added part.stopped.book);
     opens = part.opens;
-    ends = part.ends;
     cause = part.cause;
   }
 
@@ -150,7 +146,6 @@ module _ {D T : Type 0} (told : D → Option Store) (faults : D → ℕ) (asking
     start = taking.start;
     stopped = tt;
     opens = λ is. tt;
-    ends = tt;
     cause = record { later = taking.cause.later; failed = tt };
   }
 

@@ -184,7 +184,6 @@ module _ {D : Type 0} (told : D → Option Store) (faults : D → ℕ) (asking :
       start = carries.taking.start;
       stopped = carries.taking.stopped;
       opens = carries.taking.opens;
-      ends = carries.taking.ends;
       cause = record { later = carries.taking.cause.later; failed = carries.taking.cause.failed };
     };
     held = tt;
@@ -215,7 +214,6 @@ module _ {D : Type 0} (told : D → Option Store) (faults : D → ℕ) (asking :
         tt,
       );
       opens = λ is. whole-opens told now whole (told-stays told before now start is);
-      ends = tt;
       cause = record { later = later; failed = tt };
     };
     held = tt;

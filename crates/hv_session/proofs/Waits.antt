@@ -94,6 +94,13 @@ module _ (session : List ℕ) (number : ℕ) (text : List ℕ) where
   entry-waits state (entry.Drop txn table) n t fits e =
       with-open (ended (Dropped state.entries table.0)) (end-waits (Dropped state.entries table.0)) state.transactions txn.0 n t e
   entry-waits state (entry.Boot run) n t fits e = there (numbered state.transactions n) t e
+  entry-waits state (entry.Asked job table partition kind by_) n t fits e = there (numbered state.transactions n) t e
+  entry-waits state (entry.Picked job mark) n t fits e = there (numbered state.transactions n) t e
+  entry-waits state (entry.Published job low high mark) n t fits e = there (numbered state.transactions n) t e
+  entry-waits state (entry.Empty job) n t fits e = there (numbered state.transactions n) t e
+  entry-waits state (entry.Cleaned job) n t fits e = there (numbered state.transactions n) t e
+  entry-waits state (entry.Failed job why) n t fits e = there (numbered state.transactions n) t e
+  entry-waits state (entry.Forgot table write) n t fits e = there (numbered state.transactions n) t e
   entry-waits state event n t fits e = absurd fits
 
   next-waits : (o : Option Transaction) (t : Transaction) (P : Type 0) → Waits t → ((u : Transaction) → o ≡ Some u → Waits u → P) → IsSomeAnd o (Keeps t) → P

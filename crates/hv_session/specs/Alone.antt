@@ -47,17 +47,20 @@ AddsAlone {D = D} faults between =
     → HasGained faults before now added
 
 abbrev pub OpenIsWhole : {D : Type 0} → (D → Option Store) → Type 0
-OpenIsWhole {D = D} told = (now : ToldHouse D) → IsOpenHouse now → IsWholeOrClosed told now.house → IsWhole told now.house
+OpenIsWhole {D = D} told = (now : ToldHouse D) → IsOpenHouse now → IsWholeOrClosed told now.house
+    → IsWhole told now.house
 
 -- ---- the run stops
 
-abbrev pub StopsAlone : {D : Type 0} → (D → Option Store) → (D → ℕ) → (List TrailItem → Type 0) → (ToldHouse D → ToldHouse D → Type 0) → Type 0
+abbrev pub StopsAlone : {D : Type 0} → (D → Option Store) → (D → ℕ) → (List TrailItem → Type 0)
+    → (ToldHouse D → ToldHouse D → Type 0) → Type 0
 StopsAlone {D = D} told faults between meanwhile =
     (txn : ℕ) (own own' : List ℕ) (before now : ToldHouse D) (why : HouseFault) → IsWholeOrClosed told now.house
     → Halts (among told faults between meanwhile) txn (known own before) (known own' now) why
     → HasStopped told txn why before.house now.house
 
-abbrev pub OpensAlone : {D : Type 0} → (D → Option Store) → (D → ℕ) → (List TrailItem → Type 0) → (ToldHouse D → ToldHouse D → Type 0) → Type 0
+abbrev pub OpensAlone : {D : Type 0} → (D → Option Store) → (D → ℕ) → (List TrailItem → Type 0)
+    → (ToldHouse D → ToldHouse D → Type 0) → Type 0
 OpensAlone {D = D} told faults between meanwhile =
     (txn : ℕ) (own own' : List ℕ) (before now : ToldHouse D) (why : HouseFault) → IsWholeOrClosed told now.house
     → Halts (among told faults between meanwhile) txn (known own before) (known own' now) why
@@ -66,7 +69,8 @@ OpensAlone {D = D} told faults between meanwhile =
 -- ---- an abort
 
 -- nobody else ended it: it was aborted for such a cause or for want of memory, by the book's last entry, and this is its reply
-pub record IsAbortedAlone {D : Type 0} (txn : ℕ) (Causes : Cause → Type 0) (before now : ToldHouse D) (found : Done) : Type 0 where
+pub record IsAbortedAlone {D : Type 0} (txn : ℕ) (Causes : Cause → Type 0) (before now : ToldHouse D)
+    (found : Done) : Type 0 where
   pub reply : Reply
   pub is : found ≡ done.Replied reply
   pub why : Cause
@@ -84,7 +88,8 @@ pub record IsRefusedAlone {D : Type 0} (txn : ℕ) (why : Cause) (before now : T
 
 abbrev pub RefusesAlone : {D : Type 0} → (D → Option Store) → (D → ℕ) → (List TrailItem → Type 0) → Type 0
 RefusesAlone {D = D} told faults between =
-    (asking : Asking) (said : Stmt) (place : ℕ) (given : List (ℕ × ℕ)) (low txn : ℕ) (own own' : List ℕ) (before now : ToldHouse D) (why : Cause) (found : Done)
+    (asking : Asking) (said : Stmt) (place : ℕ) (given : List (ℕ × ℕ)) (low txn : ℕ) (own own' : List ℕ)
+    (before now : ToldHouse D) (why : Cause) (found : Done)
     → IsUnderWay (entries_of before.house) asking txn place said given → IsWholeOrClosed told now.house
     → Gains faults between low txn (known own before) (known own' now)
     (AbortsFor txn now [] (λ cause. cause ≡ why) found)
@@ -93,7 +98,8 @@ RefusesAlone {D = D} told faults between =
 -- one that waits for its Start isn't ended by others either
 abbrev pub RefusesWaiting : {D : Type 0} → (D → Option Store) → (D → ℕ) → (List TrailItem → Type 0) → Type 0
 RefusesWaiting {D = D} told faults between =
-    (asking : Asking) (said : Stmt) (low txn : ℕ) (own own' : List ℕ) (before now : ToldHouse D) (why : Cause) (found : Done)
+    (asking : Asking) (said : Stmt) (low txn : ℕ) (own own' : List ℕ) (before now : ToldHouse D) (why : Cause)
+    (found : Done)
     → IsWaiting (entries_of before.house) asking txn said → IsWholeOrClosed told now.house
     → Gains faults between low txn (known own before) (known own' now)
     (AbortsFor txn now [] (λ cause. cause ≡ why) found)
@@ -106,11 +112,13 @@ abbrev pub SeesSo : {D : Type 0} → (D → Option Store) → Way → Stmt → T
 SeesSo told way said before now (outcome.Means meaning) =
     (entries_of now.house ≡ entries_of before.house) × CanEnd (entries_of now.house) meaning
     × (IsToldHouse told before.house → meant (take way.place (entries_of now.house)) said ≡ Some meaning)
-SeesSo told way said before now (outcome.Ended found) = IsAbortedAlone way.txn.0 (IsUntoldDamage told now) before now found
+SeesSo told way said before now (outcome.Ended found) = IsAbortedAlone way.txn.0 (IsUntoldDamage told now) before now
+    found
 
 abbrev pub SeesAlone : {D : Type 0} → (D → Option Store) → (D → ℕ) → (List TrailItem → Type 0) → Type 0
 SeesAlone {D = D} told faults between =
-    (asking : Asking) (said : Stmt) (way : Way) (low : ℕ) (own own' : List ℕ) (before now : ToldHouse D) (found : Outcome)
+    (asking : Asking) (said : Stmt) (way : Way) (low : ℕ) (own own' : List ℕ) (before now : ToldHouse D)
+    (found : Outcome)
     → IsUnderWay (entries_of before.house) asking way.txn.0 way.place said [] → IsWholeOrClosed told now.house
     → Gains faults between low way.txn.0 (known own before) (known own' now) (Sees told now way said found)
     → SeesSo told way said before now found
@@ -118,7 +126,8 @@ SeesAlone {D = D} told faults between =
 -- ---- its end
 
 -- it ended by its commit or its Create, by the abort for a conflict, or for want of memory: by the book's last entry
-pub record IsConcludedAlone {D : Type 0} (faults : D → ℕ) (txn low : ℕ) (before now : ToldHouse D) (found : Done) : Type 0 where
+pub record IsConcludedAlone {D : Type 0} (faults : D → ℕ) (txn low : ℕ) (before now : ToldHouse D)
+    (found : Done) : Type 0 where
   pub reply : Reply
   pub is : found ≡ done.Replied reply
   pub added : ending.Concludes txn low (faults_in faults now) (entries_of before.house) (entries_of now.house)
@@ -127,7 +136,8 @@ pub record IsConcludedAlone {D : Type 0} (faults : D → ℕ) (txn low : ℕ) (b
 
 abbrev pub ConcludesAlone : {D : Type 0} → (D → Option Store) → (D → ℕ) → (List TrailItem → Type 0) → Type 0
 ConcludesAlone {D = D} told faults between =
-    (asking : Asking) (said : Stmt) (place : ℕ) (given : List (ℕ × ℕ)) (low txn : ℕ) (own own' : List ℕ) (before now : ToldHouse D) (ready : Ready) (found : Done)
+    (asking : Asking) (said : Stmt) (place : ℕ) (given : List (ℕ × ℕ)) (low txn : ℕ) (own own' : List ℕ)
+    (before now : ToldHouse D) (ready : Ready) (found : Done)
     → IsUnderWay (entries_of before.house) asking txn place said given → IsWholeOrClosed told now.house
     → Gains faults between low txn (known own before) (known own' now) (Concludes txn now ready found)
     → IsConcludedAlone faults txn low before now found
@@ -156,7 +166,8 @@ pub record IsPreparedAlone {D : Type 0} (faults : D → ℕ) (one : OnItsWay) (m
 
 abbrev pub PreparesAlone : {D : Type 0} → (D → Option Store) → (D → ℕ) → (List TrailItem → Type 0) → Type 0
 PreparesAlone {D = D} told faults between =
-    (asking : Asking) (said : Stmt) (way : Way) (own own' : List ℕ) (before now : ToldHouse D) (meaning : Meaning) (found : Prepared)
+    (asking : Asking) (said : Stmt) (way : Way) (own own' : List ℕ) (before now : ToldHouse D) (meaning : Meaning)
+    (found : Prepared)
     → IsUnderWay (entries_of before.house) asking way.txn.0 way.place said [] → CanEnd (entries_of before.house) meaning
     → IsWholeOrClosed told now.house
     → Gains faults between (faults_in faults before) way.txn.0 (known own before) (known own' now)

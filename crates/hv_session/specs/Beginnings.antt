@@ -8,7 +8,6 @@ use Rattle.hv_stands.specs.Running.{Asking}
 use Rattle.hv_trail.specs.declared.trail.TrailItem.{TrailItem}
 use Rattle.hv_steps.specs.hv_table_reader.specs.hv_acts.specs.hv_telling.specs.hv_house.specs.declared.fault.HouseFault.{HouseFault}
 use Rattle.hv_steps.specs.hv_table_reader.specs.hv_acts.specs.hv_telling.specs.hv_house.specs.declared.fault.HouseFault.TheVariants as fault
-use Rattle.hv_steps.specs.hv_table_reader.specs.hv_acts.specs.hv_telling.specs.hv_house.specs.Faults.{EndsRun}
 use Rattle.hv_steps.specs.hv_table_reader.specs.hv_acts.specs.declared.told.ToldHouse.{ToldHouse}
 use Rattle.hv_steps.specs.hv_table_reader.specs.hv_acts.specs.declared.opening.Begun.{Begun}
 use Rattle.hv_steps.specs.hv_table_reader.specs.hv_acts.specs.declared.starting.Started.{Started}
@@ -36,7 +35,6 @@ pub record GoesBeginning {D : Type 0} (setting : Setting D (ToldHouse D)) (askin
       before now
       (Begins before.house now.house asking said found))
   pub halted : IfErr result (HaltsBeginning setting asking before now)
-  pub ends : IfErr result EndsRun
 
 -- where the house's call failed, memory lacked before anything was noted, or the run stops
 abbrev pub lacking : HouseFault → Result Opened HouseFault

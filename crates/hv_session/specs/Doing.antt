@@ -47,7 +47,8 @@ use Rattle.hv_actor.specs.Acting.{Setting, Moment}
 -- what it added up to its end: the aborts that it asked for, and what it prepared behind them
 abbrev pub ReadiesTo : {D : Type 0} → ToldHouse D → Way → Stmt → Meaning → Ready → List Entry → Type 0
 ReadiesTo now way said meaning ready added =
-    (asks : List Entry) × (first : List Entry) × (added ≡ asks ++ first) × AllByRecursion (IsAskIn now way said) asks × PreparesTo way.txn.0 meaning ready first
+    (asks : List Entry) × (first : List Entry) × (added ≡ asks ++ first) × AllByRecursion (IsAskIn now way said) asks
+    × PreparesTo way.txn.0 meaning ready first
     × ((asks ≡ []) ⊎ (meaning ≡ Plain))
 
 -- one of this meaning: on the way, or by what it was ready for
@@ -73,15 +74,19 @@ IsUnrefused meaning = Unit {0}
 -- how far it has come: what it added behind its Start, and what is known of it whatever others add
 abbrev pub StandsAt : {D : Type 0} → (D → Option Store) → ToldHouse D → Way → Stmt → Point → List Entry → Type 0
 StandsAt told now way said point.Started added = added ≡ []
-StandsAt told now way said (point.Meant meaning) added = (added ≡ []) × ComesTo told now way said meaning × IsUnrefused meaning
+StandsAt told now way said (point.Meant meaning) added = (added ≡ []) × ComesTo told now way said meaning
+    × IsUnrefused meaning
 StandsAt told now way said (point.Ready ready) added =
-    (meaning : Meaning) × ComesTo told now way said meaning × ReadiesTo now way said meaning ready added × CanConclude told now way ready.end ready.text
+    (meaning : Meaning) × ComesTo told now way said meaning × ReadiesTo now way said meaning ready added
+    × CanConclude told now way ready.end ready.text
 
 -- it can be done to its end, whatever others add
 abbrev pub CanGoOn : {D : Type 0} → (D → Option Store) → ToldHouse D → Way → Stmt → Point → Type 0
 CanGoOn told now way said point.Started = (asking : Asking) × WasOnWay (trail_in now) asking way said
-CanGoOn told now way said (point.Meant meaning) = (asking : Asking) × WasOnWay (trail_in now) asking way said × ComesTo told now way said meaning
-CanGoOn told now way said (point.Ready ready) = WasOpened (trail_in now) way.txn.0 × CanConclude told now way ready.end ready.text
+CanGoOn told now way said (point.Meant meaning) = (asking : Asking) × WasOnWay (trail_in now) asking way said
+    × ComesTo told now way said meaning
+CanGoOn told now way said (point.Ready ready) = WasOpened (trail_in now) way.txn.0
+    × CanConclude told now way ready.end ready.text
 
 abbrev pub CanFinish : {D : Type 0} → (D → Option Store) → ToldHouse D → Paused → Type 0
 CanFinish told now paused = CanGoOn told now paused.way paused.tree paused.point
@@ -91,7 +96,8 @@ CanFinishSome told now (carried.Kept paused) = CanFinish told now paused
 CanFinishSome told now found = Unit {0}
 
 -- how it ends from there
-abbrev pub EndsFromPoint : {D : Type 0} → (D → Option Store) → ToldHouse D → Way → Stmt → Point → Done → List Entry → Type 0
+abbrev pub EndsFromPoint : {D : Type 0} → (D → Option Store) → ToldHouse D → Way → Stmt → Point → Done → List Entry
+    → Type 0
 EndsFromPoint told now way said point.Started found added = EndsAs told now way said found added
 EndsFromPoint told now way said (point.Meant meaning) found added = EndsFrom now way said meaning found added
 EndsFromPoint told now way said (point.Ready ready) found added = Concludes way.txn.0 now ready found added
@@ -118,7 +124,8 @@ FinishesSo told now paused reply added =
 
 -- in a told house the reply is its transaction's answer, unless others have ended it
 abbrev pub RepliesTruly : {D : Type 0} → ℕ → ToldHouse D → Reply → Type 0
-RepliesTruly txn now reply = HasReplied (book_in now) txn reply.text reply.refused reply.ended ⊎ IsGoneSo (trail_in now) txn reply
+RepliesTruly txn now reply = HasReplied (book_in now) txn reply.text reply.refused reply.ended
+    ⊎ IsGoneSo (trail_in now) txn reply
 
 -- ---- a started statement that goes on
 
@@ -148,14 +155,17 @@ is_refused meaning = false
 -- ---- a started statement that goes to its end, or to its hold
 
 -- it ended before the place where it was to be held: where its text was refused or its tables couldn't be seen; or before its commit
-abbrev pub EndsBefore : {D : Type 0} → (D → Option Store) → ToldHouse D → Way → Stmt → Option Stage → Done → List Entry → Type 0
+abbrev pub EndsBefore : {D : Type 0} → (D → Option Store) → ToldHouse D → Way → Stmt → Option Stage → Done → List Entry
+    → Type 0
 EndsBefore told now way said None found added = EndsAs told now way said found added
 EndsBefore told now way said (Some stage.Read) found added =
     AbortsFor way.txn.0 now [] (IsUntoldDamage told now) found added
-    ⊎ ((meaning : Meaning) × ComesTo told now way said meaning × (IsUnrefused meaning → ⊥) × EndsFrom now way said meaning found added)
+    ⊎ ((meaning : Meaning) × ComesTo told now way said meaning × (IsUnrefused meaning → ⊥)
+    × EndsFrom now way said meaning found added)
 EndsBefore told now way said (Some stage.Commit) found added =
     AbortsFor way.txn.0 now [] (IsUntoldDamage told now) found added
-    ⊎ ((meaning : Meaning) × ComesTo told now way said meaning × PreparesAsked way.txn.0 now (IsAskIn now way said) meaning (prepared.Ended found) added)
+    ⊎ ((meaning : Meaning) × ComesTo told now way said meaning
+    × PreparesAsked way.txn.0 now (IsAskIn now way said) meaning (prepared.Ended found) added)
 EndsBefore told now way said (Some other) found added = ⊥
 
 -- what is to be carried: a statement of this tree, to its end or to where it is to be held
@@ -252,7 +262,8 @@ WasNeverOpened carried.NoMemory = Unit {0}
 WasNeverOpened found = ⊥
 
 -- its text doesn't run, or memory lacked to read it; or a statement of it was carried so far
-abbrev pub TakesText : {D : Type 0} → (D → Option Store) → ToldHouse D → ToldHouse D → Asking → Option Stage → Taken → List Entry → Type 0
+abbrev pub TakesText : {D : Type 0} → (D → Option Store) → ToldHouse D → ToldHouse D → Asking → Option Stage → Taken
+    → List Entry → Type 0
 TakesText told before now asking hold answer added =
     ((added ≡ []) × RepliesLine (IsTextLine asking.text) answer)
     ⊎ ((said : Stmt) × (found : Carried) × Runs asking.text said

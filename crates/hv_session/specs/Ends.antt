@@ -36,16 +36,19 @@ pub record IsConflictIn (name : List ℕ) (aborted : Aborted) : Type 0 where
 
 abbrev pub IsCommitEnd : {D : Type 0} → ToldHouse D → ℕ → List ℕ → Committed → Type 0
 IsCommitEnd now txn name (committed.At place) = HasEndedAt (book_in now) txn (Some place)
-IsCommitEnd now txn name (committed.Aborted aborted) = IsConflictIn name aborted × HasEndedAt (book_in now) txn (Some aborted.at)
+IsCommitEnd now txn name (committed.Aborted aborted) = IsConflictIn name aborted
+    × HasEndedAt (book_in now) txn (Some aborted.at)
 
 -- with this text where it committed, or with the conflict's line, it is answered
 abbrev pub IsCommitAnswered : {D : Type 0} → ToldHouse D → ℕ → List ℕ → Committed → Type 0
 IsCommitAnswered now txn text (committed.At place) = HasReplied (book_in now) txn text false (Some place)
-IsCommitAnswered now txn text (committed.Aborted aborted) = HasReplied (book_in now) txn aborted.text true (Some aborted.at)
+IsCommitAnswered now txn text (committed.Aborted aborted) = HasReplied (book_in now) txn aborted.text true
+    (Some aborted.at)
 
 abbrev pub committed_reply : List ℕ → Committed → Done
 committed_reply text (committed.At place) = done.Replied (record { text = text; refused = false; ended = Some place })
-committed_reply text (committed.Aborted aborted) = done.Replied (record { text = aborted.text; refused = true; ended = Some aborted.at })
+committed_reply text (committed.Aborted aborted) = done.Replied
+    (record { text = aborted.text; refused = true; ended = Some aborted.at })
 
 -- ---- a table that is made
 

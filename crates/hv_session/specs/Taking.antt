@@ -73,7 +73,8 @@ AbortedAtOnce txn P added =
 -- or behind what it asked for, and its write id
 abbrev pub AbortedBehind : ℕ → List Entry → Type 0
 AbortedBehind txn added =
-    (asks : List Entry) × (more : List Entry) × AllByRecursion (IsAskBy txn) asks × AddsAbort txn more × (added ≡ starting txn ∷ (asks ++ more))
+    (asks : List Entry) × (more : List Entry) × AllByRecursion (IsAskBy txn) asks × AddsAbort txn more
+    × (added ≡ starting txn ∷ (asks ++ more))
 
 -- what may stand behind the Opened of a statement that ended before the place where it was to be held
 abbrev pub EndsBefore : Option Stage → ℕ → List Entry → Type 0
@@ -89,7 +90,8 @@ HasJustStarted txn added = added ≡ entry.Start (record { 0 = txn }) 0 ∷ []
 -- it has asked for the aborts that its text lists, and has its write id where it needs one
 abbrev pub HasReadied : ℕ → List Entry → Type 0
 HasReadied txn added =
-    (asks : List Entry) × (first : List Entry) × AllByRecursion (IsAskBy txn) asks × AddsNoneOrId txn first × (added ≡ starting txn ∷ (asks ++ first))
+    (asks : List Entry) × (first : List Entry) × AllByRecursion (IsAskBy txn) asks × AddsNoneOrId txn first
+    × (added ≡ starting txn ∷ (asks ++ first))
 
 -- and behind that of one that is held
 abbrev pub HoldsAt : Option Stage → ℕ → List Entry → Type 0
@@ -139,7 +141,8 @@ PointIsTrue meaning given (point.Ready ready) = EndIsTrue meaning given ready.en
 
 -- where it is ready it has asked for all aborts that its text lists
 abbrev pub HasAskedAtPoint : List Entry → ℕ → Point → Type 0
-HasAskedAtPoint book txn (point.Ready ready) = Of (state_of book) txn (λ transaction. HasAsked (state_of book) txn transaction (meaning transaction))
+HasAskedAtPoint book txn (point.Ready ready) = Of (state_of book) txn
+    (λ transaction. HasAsked (state_of book) txn transaction (meaning transaction))
 HasAskedAtPoint book txn other = Unit {0}
 
 -- and, in a told house, it has come to what its text means
@@ -161,7 +164,8 @@ pub record WasStopped (book : List Entry) (txn : ℕ) : Type 0 where
 
 -- It went through the book as a transaction, whose answer is the reply. It started at once where it could, and its entries come in the
 -- order of its way.
-pub record WentThrough (before now : List Entry) (asking : Asking) (hold : Option Stage) (reply : List ℕ) (refused : Bool) (ended : Option ℕ) : Type 0 where
+pub record WentThrough (before now : List Entry) (asking : Asking) (hold : Option Stage) (reply : List ℕ)
+    (refused : Bool) (ended : Option ℕ) : Type 0 where
   pub added : List Entry
   pub book : now ≡ before ++ opening before asking ∷ added
   pub tree : Stmt
@@ -174,7 +178,8 @@ pub record WentThrough (before now : List Entry) (asking : Asking) (hold : Optio
   pub in_order : AllInOrder (state_of before) (opening before asking ∷ added)
 
 -- its text is refused: nothing was noted, and the reply is its fault's line
-pub record IsNoStatement (before now : List Entry) (text reply : List ℕ) (refused : Bool) (ended : Option ℕ) : Type 0 where
+pub record IsNoStatement (before now : List Entry) (text reply : List ℕ) (refused : Bool)
+    (ended : Option ℕ) : Type 0 where
   pub book : now ≡ before
   pub unended : ended ≡ None
   pub is_refused : refused ≡ true
@@ -211,10 +216,12 @@ pub record IsKept (before now : List Entry) (asking : Asking) (hold : Option Sta
   pub truly : IsTrulyHeld now paused
   pub in_order : AllInOrder (state_of before) (opening before asking ∷ added)
   pub up_to_hold : Of (state_of now) (next_number before)
-      (λ transaction. IsAtHold hold transaction.given (meaning transaction) × HasAskedAt hold (state_of now) (next_number before) transaction)
+      (λ transaction. IsAtHold hold transaction.given (meaning transaction)
+      × HasAskedAt hold (state_of now) (next_number before) transaction)
 
 abbrev pub IsTakenAs : List Entry → List Entry → Asking → Option Stage → Taken → Type 0
-IsTakenAs before now asking hold (taken.Replied reply) = IsReplied before now asking hold reply.text reply.refused reply.ended
+IsTakenAs before now asking hold (taken.Replied reply) = IsReplied before now asking hold reply.text reply.refused
+    reply.ended
 IsTakenAs before now asking hold (taken.Kept paused) = IsKept before now asking hold paused
 
 -- what stands of one that is held whatever is told
@@ -223,7 +230,8 @@ IsKeptIn before now asking (taken.Replied reply) = Unit {0}
 IsKeptIn before now asking (taken.Kept paused) = (paused.way.txn.0 ≡ next_number before) × IsHeld now asking paused
 
 -- a started statement went on to its end, by entries of it alone, in order, none of which says that a file is damaged
-pub record IsFinished (before now : List Entry) (txn : ℕ) (reply : List ℕ) (refused : Bool) (ended : Option ℕ) : Type 0 where
+pub record IsFinished (before now : List Entry) (txn : ℕ) (reply : List ℕ) (refused : Bool)
+    (ended : Option ℕ) : Type 0 where
   pub added : List Entry
   pub book : now ≡ before ++ added
   pub of_it : AreOf txn added

@@ -14,7 +14,7 @@ use Rattle.hv_law_next.specs.Order.{AllInOrder}
 use Rattle.hv_actor.specs.Acting.{IsAlone, among, known}
 use Rattle.hv_steps.specs.hv_table_reader.specs.hv_acts.specs.hv_telling.specs.hv_house.specs.declared.fault.HouseFault.{HouseFault}
 use Rattle.hv_steps.specs.hv_table_reader.specs.hv_acts.specs.hv_telling.specs.hv_house.specs.declared.house.House.{House}
-use Rattle.hv_steps.specs.hv_table_reader.specs.hv_acts.specs.hv_telling.specs.hv_house.specs.Faults.{FileCause, EndsRun}
+use Rattle.hv_steps.specs.hv_table_reader.specs.hv_acts.specs.hv_telling.specs.hv_house.specs.Faults.{FileCause}
 use Rattle.hv_steps.specs.hv_table_reader.specs.hv_acts.specs.hv_telling.specs.hv_house.specs.House.{entries_of, Leaves, BeginFits, beginning_of}
 use Rattle.hv_steps.specs.hv_table_reader.specs.hv_acts.specs.hv_telling.specs.hv_house.specs.Asking.{CanBegin}
 use Rattle.hv_steps.specs.hv_table_reader.specs.hv_acts.specs.hv_telling.specs.Telling.{IsWhole, IsToldHouse, StillOpens}
@@ -37,24 +37,26 @@ use Rattle.hv_session.specs.Doing.{Course}
 use Rattle.hv_session.specs.Taking.{EndsBefore, HoldsAt, IsAtPlace, IsHeld, IsTrulyHeld, WentThrough, IsKept, IsKeptIn, IsTakenAs, IsFinished, IsWhyNot}
 
 -- nobody else acts on the house: others add nothing to its trail, and do nothing to it
-pub record ActsAlone {D : Type 0} (between : List TrailItem → Type 0) (meanwhile : ToldHouse D → ToldHouse D → Type 0) : Type 0 where
+pub record ActsAlone {D : Type 0} (between : List TrailItem → Type 0)
+    (meanwhile : ToldHouse D → ToldHouse D → Type 0) : Type 0 where
   pub nothing : AddsNothing between
   pub alone : IsAlone meanwhile
 
 -- ---- whatever is told
 
 -- a part that was done: the house is whole, and the book went on by entries of this transaction
-pub record IsDone {D : Type 0} (told : D → Option Store) (faults : D → ℕ) (txn : ℕ) (before now : House D) : Type 0 where
+pub record IsDone {D : Type 0} (told : D → Option Store) (faults : D → ℕ) (txn : ℕ)
+    (before now : House D) : Type 0 where
   pub whole : IsWhole told now
   pub added : AddsOf txn (faults before.shelf) (faults now.shelf) (entries_of before) (entries_of now)
 
 -- and one that was done or not: where it wasn't, the store of a told house opens again
-pub record IsPart {D T : Type 0} (told : D → Option Store) (faults : D → ℕ) (txn : ℕ) (before now : House D) (result : Result T HouseFault) : Type 0 where
+pub record IsPart {D T : Type 0} (told : D → Option Store) (faults : D → ℕ) (txn : ℕ) (before now : House D)
+    (result : Result T HouseFault) : Type 0 where
   pub done : IfOk result (λ _. IsDone told faults txn before now)
   pub start : now.start ≡ before.start
   pub stopped : IfErr result (λ why. HasStopped told txn why before now)
   pub opens : IsToldHouse told before → IfErr result (λ _. StillOpens told now)
-  pub ends : IfErr result EndsRun
   pub cause : FileCause (faults before.shelf) (faults now.shelf) result
 
 -- somebody asked for the statement, and it is under way
@@ -73,7 +75,8 @@ IsFinishedAs before now txn (done.Replied reply) = IsFinished before now txn rep
 IsFinishedAs before now txn (done.Gone reply) = ⊥
 
 -- all that is promised of one that was to end; in a told house as its text means
-pub record EndsAlone {D : Type 0} (told : D → Option Store) (faults : D → ℕ) (txn : ℕ) (before now : House D) (result : Result Done HouseFault) : Type 0 where
+pub record EndsAlone {D : Type 0} (told : D → Option Store) (faults : D → ℕ) (txn : ℕ) (before now : House D)
+    (result : Result Done HouseFault) : Type 0 where
   pub part : IsPart told faults txn before now result
   pub own : IfOk result IsOwnEnd
   pub truly : IsToldHouse told before → IfOk result (IsFinishedAs (entries_of before) (entries_of now) txn)
@@ -83,7 +86,8 @@ abbrev pub IsFinishedSo : List Entry → List Entry → ℕ → Reply → Type 0
 IsFinishedSo before now txn reply = IsFinished before now txn reply.text reply.refused reply.ended
 
 -- all that is promised of one that was held, and that another statement may have stopped
-pub record FinishesAlone {D : Type 0} (told : D → Option Store) (faults : D → ℕ) (txn : ℕ) (before now : House D) (result : Result Reply HouseFault) : Type 0 where
+pub record FinishesAlone {D : Type 0} (told : D → Option Store) (faults : D → ℕ) (txn : ℕ) (before now : House D)
+    (result : Result Reply HouseFault) : Type 0 where
   pub part : IsPart told faults txn before now result
   pub truly : IsToldHouse told before → IfOk result (IsFinishedSo (entries_of before) (entries_of now) txn)
 
@@ -96,7 +100,8 @@ AddsInOrder before now = (added : List Entry) × (now ≡ before ++ added) × Al
 -- it came to the place where it was to be held, or ended before that
 abbrev pub IsInTime : Option Stage → ℕ → List Entry → Carried → Type 0
 IsInTime hold txn added (carried.Ended found) = IsOwnEnd found × EndsBefore hold txn (starting txn ∷ added)
-IsInTime hold txn added (carried.Kept paused) = (paused.way.txn.0 ≡ txn) × HoldsAt hold txn (starting txn ∷ added) × IsAtPlace hold paused.point
+IsInTime hold txn added (carried.Kept paused) = (paused.way.txn.0 ≡ txn) × HoldsAt hold txn (starting txn ∷ added)
+    × IsAtPlace hold paused.point
 IsInTime hold txn added (carried.Full entries) = ⊥
 IsInTime hold txn added carried.NoMemory = ⊥
 
@@ -158,18 +163,21 @@ abbrev pub BeginsSo : List Entry → List Entry → Asking → Stmt → Opened �
 BeginsSo before now asking said (opened.Started way) = HasStarted before now asking said way
 BeginsSo before now asking said (opened.Full entries) = IsUnopened before now
 BeginsSo before now asking said opened.NoMemory = now ≡ before
-BeginsSo before now asking said (opened.Ended found) = IsTurnedAway before now asking said found × IsAnswered now (next_number before) found
+BeginsSo before now asking said (opened.Ended found) = IsTurnedAway before now asking said found
+    × IsAnswered now (next_number before) found
 
 -- The run stopped where the statement was to be opened and started at once: the journal reads to the book, or where the store failed,
 -- to the book or to it with just these two entries, which fit.
-pub record StopsAtBeginning {D : Type 0} (told : D → Option Store) (asking : Asking) (why : HouseFault) (before now : House D) : Type 0 where
+pub record StopsAtBeginning {D : Type 0} (told : D → Option Store) (asking : Asking) (why : HouseFault)
+    (before now : House D) : Type 0 where
   pub book : entries_of now ≡ entries_of before
   pub fits : BeginFits (entries_of before) asking
   pub leaves : Leaves why (beginning_of (entries_of before) asking) (told now.shelf) (entries_of now)
 
 -- It stopped where the statement was to be opened alone: the journal reads to the book, or where the store failed, to the book or to it with
 -- the Opened, which fits.
-pub record StopsAtOpening {D : Type 0} (told : D → Option Store) (asking : Asking) (why : HouseFault) (before now : House D) : Type 0 where
+pub record StopsAtOpening {D : Type 0} (told : D → Option Store) (asking : Asking) (why : HouseFault)
+    (before now : House D) : Type 0 where
   pub book : entries_of now ≡ entries_of before
   pub fits : Fits profile (state_of (entries_of before)) (opening (entries_of before) asking)
   pub leaves : Leaves why (opening (entries_of before) asking ∷ []) (told now.shelf) (entries_of now)
@@ -182,12 +190,12 @@ StopsTaken told asking why before now =
 -- ---- one that is taken up
 
 -- a statement was taken up, or the run stopped in that
-pub record IsTaking {D T : Type 0} (told : D → Option Store) (faults : D → ℕ) (asking : Asking) (before now : House D) (result : Result T HouseFault) : Type 0 where
+pub record IsTaking {D T : Type 0} (told : D → Option Store) (faults : D → ℕ) (asking : Asking) (before now : House D)
+    (result : Result T HouseFault) : Type 0 where
   pub done : IfOk result (λ _. IsDone told faults (next_number (entries_of before)) before now)
   pub start : now.start ≡ before.start
   pub stopped : IfErr result (λ why. StopsTaken told asking why before now)
   pub opens : IsToldHouse told before → IfErr result (λ _. StillOpens told now)
-  pub ends : IfErr result EndsRun
   pub cause : FileCause (faults before.shelf) (faults now.shelf) result
 
 -- what stands of it whatever is told
@@ -199,7 +207,8 @@ IsCarriedIn before now asking carried.NoMemory = now ≡ before
 
 -- and in a told house
 abbrev pub EndsThrough : List Entry → List Entry → Asking → Option Stage → Done → Type 0
-EndsThrough before now asking hold (done.Replied reply) = WentThrough before now asking hold reply.text reply.refused reply.ended
+EndsThrough before now asking hold (done.Replied reply) = WentThrough before now asking hold reply.text reply.refused
+    reply.ended
 EndsThrough before now asking hold (done.Gone reply) = ⊥
 
 abbrev pub IsCarriedAs : List Entry → List Entry → Asking → Option Stage → Carried → Type 0
@@ -209,14 +218,16 @@ IsCarriedAs before now asking hold (carried.Full entries) = Unit {0}
 IsCarriedAs before now asking hold carried.NoMemory = Unit {0}
 
 -- all that is promised of a statement of a tree that is carried to its end or its hold
-pub record CarriesAlone {D : Type 0} (told : D → Option Store) (faults : D → ℕ) (asking : Asking) (hold : Option Stage) (before now : House D)
+pub record CarriesAlone {D : Type 0} (told : D → Option Store) (faults : D → ℕ) (asking : Asking) (hold : Option Stage)
+    (before now : House D)
     (result : Result Carried HouseFault) : Type 0 where
   pub taking : IsTaking told faults asking before now result
   pub held : IfOk result (IsCarriedIn (entries_of before) (entries_of now) asking)
   pub truly : IsToldHouse told before → IfOk result (IsCarriedAs (entries_of before) (entries_of now) asking hold)
 
 -- and of one that is taken up
-pub record TakesAlone {D : Type 0} (told : D → Option Store) (faults : D → ℕ) (asking : Asking) (hold : Option Stage) (before now : House D)
+pub record TakesAlone {D : Type 0} (told : D → Option Store) (faults : D → ℕ) (asking : Asking) (hold : Option Stage)
+    (before now : House D)
     (result : Result Taken HouseFault) : Type 0 where
   pub taking : IsTaking told faults asking before now result
   pub held : IfOk result (IsKeptIn (entries_of before) (entries_of now) asking)
@@ -229,7 +240,8 @@ abbrev pub Anyhow : {T : Type 0} → T → List Entry → Type 0
 Anyhow x added = Unit {0}
 
 -- a part of a started statement is one over a house alone, whatever it answers and adds
-abbrev pub PartsAlone : {D : Type 0} → Type 0 → (D → Option Store) → (D → ℕ) → (List TrailItem → Type 0) → (ToldHouse D → ToldHouse D → Type 0) → Type 0
+abbrev pub PartsAlone : {D : Type 0} → Type 0 → (D → Option Store) → (D → ℕ) → (List TrailItem → Type 0)
+    → (ToldHouse D → ToldHouse D → Type 0) → Type 0
 PartsAlone {D = D} T told faults between meanwhile =
     (txn : ℕ) (own own' : List ℕ) (before now : ToldHouse D) (result : Result T HouseFault)
     → IsOpenHouse before → IsWholeOrClosed told now.house
@@ -247,7 +259,8 @@ BeginsAlone {D = D} told faults between =
     → BeginsSo (entries_of before.house) (entries_of now.house) asking said found
 
 -- and where the run stops in that
-abbrev pub HaltsAlone : {D : Type 0} → Type 0 → (D → Option Store) → (D → ℕ) → (List TrailItem → Type 0) → (ToldHouse D → ToldHouse D → Type 0) → Type 0
+abbrev pub HaltsAlone : {D : Type 0} → Type 0 → (D → Option Store) → (D → ℕ) → (List TrailItem → Type 0)
+    → (ToldHouse D → ToldHouse D → Type 0) → Type 0
 HaltsAlone {D = D} T told faults between meanwhile =
     (asking : Asking) (own own' : List ℕ) (before now : ToldHouse D) (why : HouseFault)
     → IsOpenHouse before → IsWholeOrClosed told now.house

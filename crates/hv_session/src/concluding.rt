@@ -1,7 +1,6 @@
 //! The end of a statement that is ready: by its commit, its Create or its Drop, by the abort for a conflict, or by one for want of memory.
 ghost use Rattle.std.specs.Prelude.{◌≡◌, ℕ, List, false, Some, [], IfOk, IfErr};
 ghost use Rattle.hv_history.specs.Answers.{ok_line};
-ghost use Rattle.hv_steps.specs.hv_table_reader.specs.hv_acts.specs.hv_telling.specs.hv_house.specs.Faults.{EndsRun};
 ghost use Rattle.hv_steps.specs.hv_table_reader.specs.hv_acts.specs.hv_telling.specs.hv_house.specs.House.{IsSmall};
 ghost use Rattle.hv_steps.specs.hv_table_reader.specs.hv_acts.specs.hv_telling.specs.Telling.{IsToldHouse};
 ghost use Rattle.hv_steps.specs.hv_table_reader.specs.hv_acts.specs.Told.{trail_in, book_in};
@@ -105,8 +104,8 @@ fn end_by_commit<D: Shelf + Drop, W: Actor<D, ToldHouse<D>>>(
     ensures goes { Goes (among D.told D.faults W.between W.meanwhile) (faults_in D.faults (W.house actor.old)) way.txn.0
         (known (W.own actor.old) (W.house actor.old)) (known (W.own actor.new) (W.house actor.new))
         (Concludes way.txn.0 (W.house actor.new) (record { end = last.Commit wrote name put; text = text })) result }
-    ensures answered { IsToldHouse D.told (W.house actor.old).house → IfOk result (AnswersTruly way.txn.0 (W.house actor.new)) }
-    ensures ends { IfErr result EndsRun }
+    ensures answered { IsToldHouse D.told (W.house actor.old).house
+        → IfOk result (AnswersTruly way.txn.0 (W.house actor.new)) }
 {
     match commit(alloc, actor, way.txn, wrote, name, put) {
         Ok(found) => Ok(committed(found, text)),
@@ -127,7 +126,8 @@ fn make<D: Shelf + Drop, W: Actor<D, ToldHouse<D>>>(
     ensures adds { AddsOwn D.faults W.between txn.0 (known (W.own actor.old) (W.house actor.old))
         (known (W.own actor.new) (W.house actor.new))
         (added_by (create_adds txn.0) result) }
-    ensures replied { IfOk result (λ made. HasReplied (book_in (W.house actor.new)) txn.0 ok_line false (Some made.at)) }
+    ensures replied { IfOk result (λ made.
+        HasReplied (book_in (W.house actor.new)) txn.0 ok_line false (Some made.at)) }
     ensures left { IsLeft D.told W.meanwhile txn.0 (W.house actor.new) result }
     ensures ends { IfErr result EndsAct }
 {
@@ -160,8 +160,8 @@ fn end_by_create<D: Shelf + Drop, W: Actor<D, ToldHouse<D>>>(
     ensures goes { Goes (among D.told D.faults W.between W.meanwhile) (faults_in D.faults (W.house actor.old)) way.txn.0
         (known (W.own actor.old) (W.house actor.old)) (known (W.own actor.new) (W.house actor.new))
         (Concludes way.txn.0 (W.house actor.new) (record { end = last.Create; text = text })) result }
-    ensures answered { IsToldHouse D.told (W.house actor.old).house → IfOk result (AnswersTruly way.txn.0 (W.house actor.new)) }
-    ensures ends { IfErr result EndsRun }
+    ensures answered { IsToldHouse D.told (W.house actor.old).house
+        → IfOk result (AnswersTruly way.txn.0 (W.house actor.new)) }
 {
     match make(alloc, actor, way.txn) {
         Ok(table) => Ok(made(text, table.at)),
@@ -206,8 +206,8 @@ fn end_by_drop<D: Shelf + Drop, W: Actor<D, ToldHouse<D>>>(
     ensures goes { Goes (among D.told D.faults W.between W.meanwhile) (faults_in D.faults (W.house actor.old)) way.txn.0
         (known (W.own actor.old) (W.house actor.old)) (known (W.own actor.new) (W.house actor.new))
         (Concludes way.txn.0 (W.house actor.new) (record { end = last.Drop table; text = text })) result }
-    ensures answered { IsToldHouse D.told (W.house actor.old).house → IfOk result (AnswersTruly way.txn.0 (W.house actor.new)) }
-    ensures ends { IfErr result EndsRun }
+    ensures answered { IsToldHouse D.told (W.house actor.old).house
+        → IfOk result (AnswersTruly way.txn.0 (W.house actor.new)) }
 {
     match unmake(alloc, actor, way.txn, table) {
         Ok(at) => Ok(made(text, at)),
@@ -233,8 +233,8 @@ pub fn conclude<D: Shelf + Drop, W: Actor<D, ToldHouse<D>>>(
     ensures goes { Goes (among D.told D.faults W.between W.meanwhile) (faults_in D.faults (W.house actor.old)) way.txn.0
         (known (W.own actor.old) (W.house actor.old)) (known (W.own actor.new) (W.house actor.new))
         (Concludes way.txn.0 (W.house actor.new) ready) result }
-    ensures answered { IsToldHouse D.told (W.house actor.old).house → IfOk result (AnswersTruly way.txn.0 (W.house actor.new)) }
-    ensures ends { IfErr result EndsRun }
+    ensures answered { IsToldHouse D.told (W.house actor.old).house
+        → IfOk result (AnswersTruly way.txn.0 (W.house actor.new)) }
 {
     let Ready { end, text } = ready;
     match end {

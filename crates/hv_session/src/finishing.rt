@@ -1,6 +1,5 @@
 //! A held statement to its reply: what others have ended meanwhile is told, and any other goes on to its end.
-ghost use Rattle.std.specs.Prelude.{◌≡◌, ◌⊎◌, ℕ, IfOk, IfErr};
-ghost use Rattle.hv_steps.specs.hv_table_reader.specs.hv_acts.specs.hv_telling.specs.hv_house.specs.Faults.{EndsRun};
+ghost use Rattle.std.specs.Prelude.{◌≡◌, ◌⊎◌, ℕ, IfOk};
 ghost use Rattle.hv_steps.specs.hv_table_reader.specs.hv_acts.specs.hv_telling.specs.hv_house.specs.House.{entries_of};
 ghost use Rattle.hv_steps.specs.hv_table_reader.specs.hv_acts.specs.hv_telling.specs.Telling.{IsToldHouse};
 ghost use Rattle.hv_steps.specs.hv_table_reader.specs.hv_acts.specs.Told.{trail_in};
@@ -61,11 +60,13 @@ fn finish_unless<D: Shelf + Drop, W: Actor<D, ToldHouse<D>>>(
         paused.way.txn.0
         (known (W.own actor.old) (W.house actor.old)) (known (W.own actor.new) (W.house actor.new))
         (FinishesSo D.told (W.house actor.new) paused) result }
-    ensures answered { IsToldHouse D.told (W.house actor.old).house → IfOk result (RepliesTruly paused.way.txn.0 (W.house actor.new)) }
+    ensures answered { IsToldHouse D.told (W.house actor.old).house
+        → IfOk result (RepliesTruly paused.way.txn.0 (W.house actor.new)) }
     ensures alone { ActsAlone W.between W.meanwhile → IsToldHouse D.told (W.house actor.old).house
-        → IsTrulyHeld (entries_of (W.house actor.old).house) paused ⊎ WasStopped (entries_of (W.house actor.old).house) paused.way.txn.0
-        → IfOk result (IsFinishedSo (entries_of (W.house actor.old).house) (entries_of (W.house actor.new).house) paused.way.txn.0) }
-    ensures ends { IfErr result EndsRun }
+        → IsTrulyHeld (entries_of (W.house actor.old).house) paused
+        ⊎ WasStopped (entries_of (W.house actor.old).house) paused.way.txn.0
+        → IfOk result (IsFinishedSo (entries_of (W.house actor.old).house) (entries_of (W.house actor.new).house)
+        paused.way.txn.0) }
 {
     match said {
         Some(reply) => {
@@ -94,12 +95,13 @@ pub fn finish<D: Shelf + Drop, W: Actor<D, ToldHouse<D>>>(
         paused.way.txn.0
         (known (W.own actor.old) (W.house actor.old)) (known (W.own actor.new) (W.house actor.new))
         (FinishesSo D.told (W.house actor.new) paused) result }
-    ensures answered { IsToldHouse D.told (W.house actor.old).house → IfOk result (RepliesTruly paused.way.txn.0 (W.house actor.new)) }
+    ensures answered { IsToldHouse D.told (W.house actor.old).house
+        → IfOk result (RepliesTruly paused.way.txn.0 (W.house actor.new)) }
     ensures alone { ActsAlone W.between W.meanwhile
         → (IsToldHouse D.told (W.house actor.old).house
-        → IsTrulyHeld (entries_of (W.house actor.old).house) paused ⊎ WasStopped (entries_of (W.house actor.old).house) paused.way.txn.0)
+        → IsTrulyHeld (entries_of (W.house actor.old).house) paused
+        ⊎ WasStopped (entries_of (W.house actor.old).house) paused.way.txn.0)
         → FinishesAlone D.told D.faults paused.way.txn.0 (W.house actor.old).house (W.house actor.new).house result }
-    ensures ends { IfErr result EndsRun }
 {
     match tell_end(alloc, actor, paused.way.txn) {
         Ok(said) => finish_unless(alloc, actor, paused, said),

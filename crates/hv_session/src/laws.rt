@@ -14,7 +14,8 @@ use hv_steps::hv_table_reader::hv_acts::ToldHouse;
 /// A statement that is held can be finished, whatever others do to the house meanwhile, and whatever one's own acts add to it.
 pub fn what_is_held_can_be_finished<D: Shelf + Drop, W: Actor<D, ToldHouse<D>>>()
     ensures others { (before now : House D) (paused : Paused)
-        → IsLater D.faults (seen_in before) (seen_in now) → CanFinish D.told before paused → CanFinish D.told now paused }
+        → IsLater D.faults (seen_in before) (seen_in now) → CanFinish D.told before paused
+        → CanFinish D.told now paused }
     ensures acts { (by : ℕ) (own own' : List ℕ) (before now : House D) (added : List Entry) (paused : Paused)
         → AddsOwn D.faults W.between by (known own before) (known own' now) added → CanFinish D.told before paused
         → CanFinish D.told now paused }

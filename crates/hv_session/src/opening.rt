@@ -3,7 +3,6 @@ ghost use Rattle.std.specs.Prelude.{◌≡◌, ◌≤◌, ℕ, List, length, Err
 ghost use Rattle.hv_ast.specs.declared.statement.Stmt.{Stmt as Tree};
 ghost use Rattle.hv_built.specs.Running.{Runs};
 ghost use Rattle.hv_stands.specs.Running.{Asking};
-ghost use Rattle.hv_steps.specs.hv_table_reader.specs.hv_acts.specs.hv_telling.specs.hv_house.specs.Faults.{EndsRun};
 ghost use Rattle.hv_steps.specs.hv_table_reader.specs.hv_acts.specs.declared.told.ToldHouse.{ToldHouse as House};
 ghost use Rattle.hv_steps.specs.hv_table_reader.specs.hv_acts.specs.Told.{trail_in};
 ghost use Rattle.hv_steps.specs.Going.{IsOpenHouse, faults_in, GainsSome, WasOpened};
@@ -90,7 +89,8 @@ fn open_waiting<D: Shelf + Drop, W: Actor<D, ToldHouse<D>>>(
     requires short { length text ≤ 32768 }
     requires named { length session ≤ 32 }
     ensures keeps { W.keeps actor.new }
-    ensures waits { IfOk result (λ txn. WaitsIn (W.house actor.new) (record { session = session; number = number; text = text }) tree txn.0) }
+    ensures waits { IfOk result (λ txn. WaitsIn (W.house actor.new)
+        (record { session = session; number = number; text = text }) tree txn.0) }
     ensures opens { (first : House D) (own : List ℕ) → WasHindered D.faults W.between tree (known own first)
         (known (W.own actor.old) (W.house actor.old))
         → OpensSo (among D.told D.faults W.between W.meanwhile)
@@ -348,13 +348,14 @@ pub fn begin<D: Shelf + Drop, W: Actor<D, ToldHouse<D>>>(
     requires short { length text ≤ 32768 }
     requires named { length session ≤ 32 }
     ensures keeps { W.keeps actor.new }
-    ensures begins { (said : Tree) → Runs text said → IfOk result (λ opened. GainsSome D.faults W.between (faults_in D.faults (W.house actor.old))
+    ensures begins { (said : Tree) → Runs text said → IfOk result
+        (λ opened. GainsSome D.faults W.between (faults_in D.faults (W.house actor.old))
         (known (W.own actor.old) (W.house actor.old)) (known (W.own actor.new) (W.house actor.new))
-        (Begins (W.house actor.old) (W.house actor.new) (record { session = session; number = number; text = text }) said opened)) }
+        (Begins (W.house actor.old) (W.house actor.new) (record { session = session; number = number; text = text })
+        said opened)) }
     ensures halts { IfErr result (HaltsBeginning (among D.told D.faults W.between W.meanwhile)
         (record { session = session; number = number; text = text })
         (known (W.own actor.old) (W.house actor.old)) (known (W.own actor.new) (W.house actor.new))) }
-    ensures ends { IfErr result EndsRun }
 {
     match copy_asked(alloc, &session, &text) {
         Ok((name, words)) => begin_or_open(alloc, actor, session, number, text, tree, name, words),

@@ -1,10 +1,9 @@
 //! A started statement up to its end: what it asks for, and what it prepares behind that.
 
-ghost use Rattle.std.specs.Prelude.{◌≡◌, IfOk, IfErr};
+ghost use Rattle.std.specs.Prelude.{◌≡◌, IfOk};
 ghost use Rattle.hv_logic.specs.declared.meaning.Meaning.TheVariants.{Plain};
 ghost use Rattle.hv_history.specs.Shown.{is_plain};
 ghost use Rattle.hv_stands.specs.Running.{Asking};
-ghost use Rattle.hv_steps.specs.hv_table_reader.specs.hv_acts.specs.hv_telling.specs.hv_house.specs.Faults.{EndsRun};
 ghost use Rattle.hv_steps.specs.hv_table_reader.specs.hv_acts.specs.Told.{trail_in};
 ghost use Rattle.hv_steps.specs.Going.{faults_in, Goes, IsOpenHouse, WasOnWay};
 ghost use Rattle.hv_steps.specs.Phases.{CanConcludeIn, ComesTo, PreparesAsked};
@@ -46,7 +45,6 @@ fn ask_first<D: Shelf + Drop, W: Actor<D, ToldHouse<D>>>(
         (known (W.own actor.old) (W.house actor.old)) (known (W.own actor.new) (W.house actor.new))
         (PreparesAsked way.txn.0 (W.house actor.new) (IsAskIn (W.house actor.new) way tree.now) meaning) result }
     ensures can { IfOk result (CanConcludeIn D.told (W.house actor.new) way) }
-    ensures ends { IfErr result EndsRun }
 {
     match ask(alloc, actor, way, tree) {
         Ok(Asked::All) => prepare(alloc, actor, way, meaning),
@@ -76,7 +74,6 @@ pub fn get_ready<D: Shelf + Drop, W: Actor<D, ToldHouse<D>>>(
         (known (W.own actor.old) (W.house actor.old)) (known (W.own actor.new) (W.house actor.new))
         (PreparesAsked way.txn.0 (W.house actor.new) (IsAskIn (W.house actor.new) way tree.now) meaning) result }
     ensures can { IfOk result (CanConcludeIn D.told (W.house actor.new) way) }
-    ensures ends { IfErr result EndsRun }
 {
     if is_plain(&meaning) {
         ask_first(alloc, actor, way, tree, meaning)

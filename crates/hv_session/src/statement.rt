@@ -1,7 +1,6 @@
 //! A statement from its text to its end, or to the place where it is to be held, over any actor.
 ghost use Rattle.std.specs.Prelude.{◌≡◌, ◌≤◌, false, length, IfOk, IfErr};
 ghost use Rattle.hv_built.specs.Running.{Runs};
-ghost use Rattle.hv_steps.specs.hv_table_reader.specs.hv_acts.specs.hv_telling.specs.hv_house.specs.Faults.{EndsRun};
 ghost use Rattle.hv_steps.specs.Going.{IsOpenHouse, faults_in, GainsSome};
 ghost use Rattle.hv_steps.specs.Phases.{HaltsBeginning};
 ghost use Rattle.hv_session.specs.Doing.{IsHold, IsSaidFor, WasNeverOpened, TakesText, CanFinishTaken};
@@ -59,8 +58,8 @@ fn take_read<D: Shelf + Drop, W: Actor<D, ToldHouse<D>>>(
         (known (W.own actor.old) (W.house actor.old)) (known (W.own actor.new) (W.house actor.new))) }
     ensures can { IfOk result (CanFinishTaken D.told (W.house actor.new)) }
     ensures alone { ActsAlone W.between W.meanwhile
-        → TakesAlone D.told D.faults (asked_of asking) asking.hold (W.house actor.old).house (W.house actor.new).house result }
-    ensures ends { IfErr result EndsRun }
+        → TakesAlone D.told D.faults (asked_of asking) asking.hold (W.house actor.old).house (W.house actor.new).house
+        result }
 {
     let Asking {
         session,
@@ -96,8 +95,8 @@ fn take_statement<D: Shelf + Drop, W: Actor<D, ToldHouse<D>>>(
         (known (W.own actor.old) (W.house actor.old)) (known (W.own actor.new) (W.house actor.new))) }
     ensures can { IfOk result (CanFinishTaken D.told (W.house actor.new)) }
     ensures alone { ActsAlone W.between W.meanwhile
-        → TakesAlone D.told D.faults (asked_of asking) asking.hold (W.house actor.old).house (W.house actor.new).house result }
-    ensures ends { IfErr result EndsRun }
+        → TakesAlone D.told D.faults (asked_of asking) asking.hold (W.house actor.old).house (W.house actor.new).house
+        result }
 {
     match read_statement(alloc, &asking.text) {
         Ok(kept) => take_read(alloc, actor, asking, kept, tree),
@@ -134,8 +133,8 @@ pub fn take_up<D: Shelf + Drop, W: Actor<D, ToldHouse<D>>>(
         (known (W.own actor.old) (W.house actor.old)) (known (W.own actor.new) (W.house actor.new))) }
     ensures can { IfOk result (CanFinishTaken D.told (W.house actor.new)) }
     ensures alone { ActsAlone W.between W.meanwhile
-        → TakesAlone D.told D.faults (asked_of asking) asking.hold (W.house actor.old).house (W.house actor.new).house result }
-    ensures ends { IfErr result EndsRun }
+        → TakesAlone D.told D.faults (asked_of asking) asking.hold (W.house actor.old).house (W.house actor.new).house
+        result }
 {
     match read_statement(alloc, &asking.text) {
         Ok(tree) => take_statement(alloc, actor, asking, tree),

@@ -3,7 +3,6 @@ ghost use Rattle.std.specs.Prelude.{◌≡◌, ◌≤◌, ℕ, List, Some, None,
 ghost use Rattle.hv_base.specs.declared.gate.Stage.TheVariants as stage;
 ghost use Rattle.hv_built.specs.Running.{Runs};
 ghost use Rattle.hv_stands.specs.Running.{Asking, meant};
-ghost use Rattle.hv_steps.specs.hv_table_reader.specs.hv_acts.specs.hv_telling.specs.hv_house.specs.Faults.{EndsRun};
 ghost use Rattle.hv_steps.specs.hv_table_reader.specs.hv_acts.specs.hv_telling.specs.hv_house.specs.House.{entries_of};
 ghost use Rattle.hv_steps.specs.hv_table_reader.specs.hv_acts.specs.hv_telling.specs.Telling.{IsToldHouse, IsWhole};
 ghost use Rattle.hv_steps.specs.hv_table_reader.specs.hv_acts.specs.declared.told.ToldHouse.{ToldHouse as House};
@@ -64,12 +63,13 @@ fn end_as<D: Shelf + Drop, W: Actor<D, ToldHouse<D>>>(
     ensures goes { Goes (among D.told D.faults W.between W.meanwhile) (faults_in D.faults (W.house actor.old)) way.txn.0
         (known (W.own actor.old) (W.house actor.old)) (known (W.own actor.new) (W.house actor.new))
         (EndsFrom (W.house actor.new) way tree.now meaning) result }
-    ensures answered { IsToldHouse D.told (W.house actor.old).house → IfOk result (AnswersTruly way.txn.0 (W.house actor.new)) }
+    ensures answered { IsToldHouse D.told (W.house actor.old).house
+        → IfOk result (AnswersTruly way.txn.0 (W.house actor.new)) }
     ensures alone { ActsAlone W.between W.meanwhile → IsOnWay (entries_of (W.house actor.old).house) way tree.now
-        → (IsToldHouse D.told (W.house actor.old).house → meant (take way.place (entries_of (W.house actor.old).house)) tree.now ≡ Some meaning)
+        → (IsToldHouse D.told (W.house actor.old).house
+        → meant (take way.place (entries_of (W.house actor.old).house)) tree.now ≡ Some meaning)
         → CanEnd (entries_of (W.house actor.old).house) meaning
         → EndsAlone D.told D.faults way.txn.0 (W.house actor.old).house (W.house actor.new).house result }
-    ensures ends { IfErr result EndsRun }
 {
     match get_ready(alloc, actor, way, tree, meaning) {
         Ok(Prepared::Ready(ready)) => conclude(alloc, actor, way, ready),
@@ -92,10 +92,10 @@ fn go_to_end<D: Shelf + Drop, W: Actor<D, ToldHouse<D>>>(
     ensures goes { Goes (among D.told D.faults W.between W.meanwhile) (faults_in D.faults (W.house actor.old)) way.txn.0
         (known (W.own actor.old) (W.house actor.old)) (known (W.own actor.new) (W.house actor.new))
         (EndsAs D.told (W.house actor.new) way tree.now) result }
-    ensures answered { IsToldHouse D.told (W.house actor.old).house → IfOk result (AnswersTruly way.txn.0 (W.house actor.new)) }
+    ensures answered { IsToldHouse D.told (W.house actor.old).house
+        → IfOk result (AnswersTruly way.txn.0 (W.house actor.new)) }
     ensures alone { ActsAlone W.between W.meanwhile → IsOnWay (entries_of (W.house actor.old).house) way tree.now
         → EndsAlone D.told D.faults way.txn.0 (W.house actor.old).house (W.house actor.new).house result }
-    ensures ends { IfErr result EndsRun }
 {
     match see(alloc, actor, way, tree) {
         Ok(Outcome::Means(meaning)) => end_as(alloc, actor, way, tree, meaning),
@@ -121,10 +121,10 @@ fn keep_meant<D: Shelf + Drop, W: Actor<D, ToldHouse<D>>>(
         (known (W.own actor.old) (W.house actor.old)) (known (W.own actor.new) (W.house actor.new)) result }
     ensures alone { ActsAlone W.between W.meanwhile → IsOnWay (entries_of (W.house actor.old).house) way tree
         → CanEnd (entries_of (W.house actor.old).house) meaning
-        → (IsToldHouse D.told (W.house actor.old).house → meant (take way.place (entries_of (W.house actor.old).house)) tree ≡ Some meaning)
+        → (IsToldHouse D.told (W.house actor.old).house
+        → meant (take way.place (entries_of (W.house actor.old).house)) tree ≡ Some meaning)
         → GoesAlone D.told D.faults way (up_to tree (Some stage.Read)) (W.house actor.old).house
         (W.house actor.new).house result }
-    ensures ends { IfErr result EndsRun }
 {
     if is_refused(&meaning) {
         let found = end_as(alloc, actor, way, &tree, meaning);
@@ -155,7 +155,6 @@ fn hold_read<D: Shelf + Drop, W: Actor<D, ToldHouse<D>>>(
     ensures alone { ActsAlone W.between W.meanwhile → IsOnWay (entries_of (W.house actor.old).house) way tree
         → GoesAlone D.told D.faults way (up_to tree (Some stage.Read)) (W.house actor.old).house
         (W.house actor.new).house result }
-    ensures ends { IfErr result EndsRun }
 {
     match see(alloc, actor, way, &tree) {
         Ok(Outcome::Means(meaning)) => keep_meant(alloc, actor, way, tree, meaning),
@@ -187,10 +186,10 @@ fn keep_ready<D: Shelf + Drop, W: Actor<D, ToldHouse<D>>>(
         (known (W.own actor.old) (W.house actor.old)) (known (W.own actor.new) (W.house actor.new)) result }
     ensures alone { ActsAlone W.between W.meanwhile → IsOnWay (entries_of (W.house actor.old).house) way tree
         → CanEnd (entries_of (W.house actor.old).house) meaning
-        → (IsToldHouse D.told (W.house actor.old).house → meant (take way.place (entries_of (W.house actor.old).house)) tree ≡ Some meaning)
+        → (IsToldHouse D.told (W.house actor.old).house
+        → meant (take way.place (entries_of (W.house actor.old).house)) tree ≡ Some meaning)
         → GoesAlone D.told D.faults way (up_to tree (Some stage.Commit)) (W.house actor.old).house
         (W.house actor.new).house result }
-    ensures ends { IfErr result EndsRun }
 {
     match get_ready(alloc, actor, way, &tree, meaning) {
         Ok(Prepared::Ready(ready)) => Ok(Carried::Kept(Paused {
@@ -225,7 +224,6 @@ fn hold_commit<D: Shelf + Drop, W: Actor<D, ToldHouse<D>>>(
     ensures alone { ActsAlone W.between W.meanwhile → IsOnWay (entries_of (W.house actor.old).house) way tree
         → GoesAlone D.told D.faults way (up_to tree (Some stage.Commit)) (W.house actor.old).house
         (W.house actor.new).house result }
-    ensures ends { IfErr result EndsRun }
 {
     match see(alloc, actor, way, &tree) {
         Ok(Outcome::Means(meaning)) => keep_ready(alloc, actor, way, tree, meaning),
@@ -255,7 +253,6 @@ fn go_unheld<D: Shelf + Drop, W: Actor<D, ToldHouse<D>>>(
         (known (W.own actor.old) (W.house actor.old)) (known (W.own actor.new) (W.house actor.new)) result }
     ensures alone { ActsAlone W.between W.meanwhile → IsOnWay (entries_of (W.house actor.old).house) way tree
         → GoesAlone D.told D.faults way (up_to tree None) (W.house actor.old).house (W.house actor.new).house result }
-    ensures ends { IfErr result EndsRun }
 {
     let found = go_to_end(alloc, actor, way, &tree);
     discard(tree);
@@ -280,7 +277,6 @@ fn hold_at<D: Shelf + Drop, W: Actor<D, ToldHouse<D>>>(
     ensures alone { ActsAlone W.between W.meanwhile → IsOnWay (entries_of (W.house actor.old).house) way tree
         → GoesAlone D.told D.faults way (up_to tree (Some at)) (W.house actor.old).house (W.house actor.new).house
         result }
-    ensures ends { IfErr result EndsRun }
 {
     match at {
         Stage::Start => Ok(Carried::Kept(Paused {
@@ -312,7 +308,6 @@ fn go<D: Shelf + Drop, W: Actor<D, ToldHouse<D>>>(
         (known (W.own actor.old) (W.house actor.old)) (known (W.own actor.new) (W.house actor.new)) result }
     ensures alone { ActsAlone W.between W.meanwhile → IsOnWay (entries_of (W.house actor.old).house) way tree
         → GoesAlone D.told D.faults way (up_to tree hold) (W.house actor.old).house (W.house actor.new).house result }
-    ensures ends { IfErr result EndsRun }
 {
     match hold {
         None => go_unheld(alloc, actor, way, tree),
@@ -339,12 +334,12 @@ fn go_opened<D: Shelf + Drop, W: Actor<D, ToldHouse<D>>>(
         → GoesTaking (among D.told D.faults W.between W.meanwhile) asking (up_to tree hold) (known own first)
         (known (W.own actor.new) (W.house actor.new)) result }
     ensures can { IfOk result (CanFinishSome D.told (W.house actor.new)) }
-    ensures alone { ActsAlone W.between W.meanwhile → (first : House D) (own : List ℕ) (asking : Asking) → Runs asking.text tree
+    ensures alone { ActsAlone W.between W.meanwhile → (first : House D) (own : List ℕ) (asking : Asking)
+        → Runs asking.text tree
         → IsOpenHouse first → IsWhole D.told first.house
         → GainsSome D.faults W.between (faults_in D.faults first) (known own first)
         (known (W.own actor.old) (W.house actor.old)) (Begins first (W.house actor.old) asking tree opened)
         → CarriesAlone D.told D.faults asking hold first.house (W.house actor.new).house result }
-    ensures ends { IfErr result EndsRun }
 {
     match opened {
         Opened::Started(way) => go(alloc, actor, way, tree, hold),
@@ -393,9 +388,9 @@ pub fn carry<D: Shelf + Drop, W: Actor<D, ToldHouse<D>>>(
         (record { session = session; number = number; text = text })
         (known (W.own actor.old) (W.house actor.old)) (known (W.own actor.new) (W.house actor.new))) }
     ensures can { IfOk result (CanFinishSome D.told (W.house actor.new)) }
-    ensures alone { ActsAlone W.between W.meanwhile → CarriesAlone D.told D.faults (record { session = session; number = number; text = text }) hold
+    ensures alone { ActsAlone W.between W.meanwhile → CarriesAlone D.told D.faults
+        (record { session = session; number = number; text = text }) hold
         (W.house actor.old).house (W.house actor.new).house result }
-    ensures ends { IfErr result EndsRun }
 {
     match begin(alloc, actor, session, number, text, kept) {
         Ok(opened) => go_opened(alloc, actor, opened, tree, hold),
@@ -423,11 +418,11 @@ pub fn go_on<D: Shelf + Drop, W: Actor<D, ToldHouse<D>>>(
         paused.way.txn.0
         (known (W.own actor.old) (W.house actor.old)) (known (W.own actor.new) (W.house actor.new))
         (Finishes D.told (W.house actor.new) paused) result }
-    ensures answered { IsToldHouse D.told (W.house actor.old).house → IfOk result (AnswersTruly paused.way.txn.0 (W.house actor.new)) }
+    ensures answered { IsToldHouse D.told (W.house actor.old).house
+        → IfOk result (AnswersTruly paused.way.txn.0 (W.house actor.new)) }
     ensures alone { ActsAlone W.between W.meanwhile → IsHeldBySome (entries_of (W.house actor.old).house) paused
         → (IsToldHouse D.told (W.house actor.old).house → IsTrulyHeld (entries_of (W.house actor.old).house) paused)
         → EndsAlone D.told D.faults paused.way.txn.0 (W.house actor.old).house (W.house actor.new).house result }
-    ensures ends { IfErr result EndsRun }
 {
     let Paused { way, tree, point } = paused;
     match point {

@@ -76,6 +76,13 @@ module _ (counts : ℕ × ℕ → Bool) where
   marks-next limits state (entry.Create txn table) fits = other-marks (ended (Made state.entries table.0)) (λ t. refl) state.transactions txn.0
   marks-next limits state (entry.Drop txn table) fits = other-marks (ended (Dropped state.entries table.0)) (λ t. refl) state.transactions txn.0
   marks-next limits state (entry.Boot run) fits = refl
+  marks-next limits state (entry.Asked job table partition kind by_) fits = refl
+  marks-next limits state (entry.Picked job mark) fits = refl
+  marks-next limits state (entry.Published job low high mark) fits = refl
+  marks-next limits state (entry.Empty job) fits = refl
+  marks-next limits state (entry.Cleaned job) fits = refl
+  marks-next limits state (entry.Failed job why) fits = refl
+  marks-next limits state (entry.Forgot table write) fits = refl
   marks-next limits state event fits = absurd fits
 
   marks-all : (limits : Limits) (entries : List Entry) (state : State) → AllFit limits state entries

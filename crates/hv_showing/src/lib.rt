@@ -2,6 +2,7 @@
 #![tactic(auto)]
 
 pub use hv_earlier;
+pub use hv_fits;
 
 mod fronts;
 mod locks;

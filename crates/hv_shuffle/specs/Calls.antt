@@ -5,7 +5,7 @@ use Rattle.std.specs.List.{AllZip, flat_map}
 use Rattle.std.specs.List.Sorted.{IsStableBy}
 use Rattle.std.specs.declared.cmp.Ordering.{Ordering}
 use Rattle.std.specs.Borrow.{Bor}
-use Rattle.std.specs.Fn.{Shared}
+use Rattle.std.specs.Fn.{Shared, FnReturns}
 use Rattle.hv_base.specs.declared.failure.NoMemory.{NoMemory}
 use Rattle.hv_shuffle.specs.Shuffled.{before}
 
@@ -16,6 +16,10 @@ IsFixed {X} {Y} gives = (x : X) (y z : Y) → gives x y → gives x z → y ≡ 
 -- a function may be called at a reference to x
 abbrev pub TakesAt : {M T R : Type 0} → Shared M (Bor T × Unit {0}) R → M → T → Type 0
 TakesAt {M} {T} g f x = (shown : Bor T) → shown.now ≡ x → g.pre f (shown, tt)
+
+-- a call with the job may give this answer
+abbrev pub JobGives : {F J X : Type 0} → Shared F (J × Unit {0}) X → F → J → X → Type 0
+JobGives {F} {J} {X} g f job answer = FnReturns g f (job, tt) answer
 
 -- a call of the mapper at the input may find these pairs
 pub record MapsTo {M T P : Type 0} (g : Shared M (Bor T × Unit {0}) (Result (Vec P) NoMemory)) (f : M) (input : T) (pairs : List P) : Type 0 where
@@ -32,6 +36,10 @@ pub record ReducesTo {F K V O : Type 0} (g : Shared F (Bor K × (Bor (List V) ×
   pub key_is : key.now ≡ group.0
   pub values_are : values.now ≡ group.1
   pub call : g.post f (key, (values, tt)) (Ok answer)
+
+-- an answer is what was made
+abbrev pub IsMade : {X : Type 0} → Result X NoMemory → X → Type 0
+IsMade answer made = answer ≡ Ok made
 
 -- each answer is a list, and the whole is these lists, one behind the other
 pub record JoinsTo {X : Type 0} (answers : List (Result (Vec X) NoMemory)) (whole : List X) : Type 0 where

@@ -1,12 +1,31 @@
 ghost use Rattle.std.specs.Prelude.{◌≡◌, ℕ, ◌*◌, ◌-◌, ◌<◌, ◌≤◌, IfOk, List, length, take, drop, min, vec_len};
 ghost use Rattle.std.specs.Borrow.{Bor};
 ghost use Rattle.std.specs.Fn.{FnReturns, FnReturnsAt};
+ghost use Rattle.std.specs.List.{AllZip};
+ghost use Rattle.hv_shuffle.specs.Calls.{JobGives};
 ghost use Rattle.hv_shuffle.specs.Parts.{AreOfParts, AreOfRanges, IsPartOf};
 
 use hv_base::NoMemory;
 use std::alloc::Global;
 use std::thread;
 use std::thread::Threads;
+
+/// How work is cut: at most so many workers, none of which has fewer than the least number of items.
+#[derive(Clone, Copy)]
+pub struct Cut {
+    pub workers: usize,
+    pub least: usize,
+}
+
+impl Cut {
+    /// How many workers so many items are worth, one at least.
+    pub fn workers_for(self, len: usize) -> usize
+        ensures { 1 ≤ result }
+    {
+        let worth = len / self.least.max(1);
+        self.workers.min(worth).max(1)
+    }
+}
 
 /// Calls `f` with the first place and the length of ranges that follow one another and make up
 /// `0..len`, at most `workers` of them, each in a thread of its own where one can be made, and gives
@@ -63,6 +82,20 @@ pub fn by_parts<R: Threads + Sync, T: Sync, X: Send + Drop, F: Fn(&[T]) -> X + S
     by_ranges(rt, alloc, items.len(), workers, &answer)
 }
 
+/// Calls `f` with each job, each call in a thread of its own where one can be made, and gives what the
+/// calls answer, in the order of the jobs. Where memory lacks jobs are let go of.
+pub fn by_jobs<R: Threads + Sync, J: Send + Drop, X: Send + Drop, F: Fn(J) -> X + Sync>(
+    rt: &R,
+    jobs: Vec<J>,
+    f: &F,
+) -> Result<Vec<X>, NoMemory>
+    requires { F.IsAlwaysCallable f.now }
+    ensures { IfOk result (λ answers. AllZip (JobGives F.Fn f.now) jobs.items answers.items) }
+{
+    let answers = thread::map_vec(rt, jobs, f)?;
+    Ok(answers)
+}
+
 /// The part of `items` that begins at `from`.
 pub fn part_at<T>(items: &[T], from: usize, count: usize) -> &[T]
     requires from { from ≤ length items.now }
@@ -72,6 +105,17 @@ pub fn part_at<T>(items: &[T], from: usize, count: usize) -> &[T]
 {
     let (_, rest) = items.split_at(from);
     let (part, _) = rest.split_at(count);
+    part
+}
+
+/// The part of `items` that begins at `from`, of so many items as far as there are so many.
+pub fn part_of<T>(items: &[T], from: usize, count: usize) -> &[T]
+    ensures { result.now ≡ take count (drop from items.now) }
+{
+    let within = from.min(items.len());
+    let (_, rest) = items.split_at(within);
+    let most = count.min(rest.len());
+    let (part, _) = rest.split_at(most);
     part
 }
 

@@ -4,7 +4,7 @@ ghost use Rattle.std.specs.List.Sorted.{IsSortedBy, IsStableBy};
 ghost use Rattle.std.specs.Borrow.{Bor};
 ghost use Rattle.hv_shuffle.specs.Parts.{IsPartOf};
 ghost use Rattle.hv_shuffle.specs.Shuffled.{IsShuffled, before, grouped, keyed};
-ghost use Rattle.hv_shuffle.specs.Calls.{IsFixed, MapsTo, ReducesTo, TakesAt, JoinsTo, StandsSorted};
+ghost use Rattle.hv_shuffle.specs.Calls.{IsFixed, IsMade, MapsTo, ReducesTo, TakesAt, JoinsTo, StandsSorted};
 
 use crate::parts::by_parts;
 use hv_base::{List, NoMemory};
@@ -241,6 +241,21 @@ pub fn joined<X: Drop>(
     for answer in answers {
         let mut list = answer?;
         all.append(&mut list)?;
+    }
+    Ok(all)
+}
+
+/// What the calls of `by_parts` or `by_ranges` made, where each made it.
+pub fn unwrapped<X: Drop>(
+    alloc: Global,
+    answers: Vec<Result<X, NoMemory>>,
+) -> Result<Vec<X>, NoMemory>
+    ensures { IfOk result (λ all. AllZip IsMade answers.items all.items) }
+{
+    let mut all = Vec::new(alloc);
+    for answer in answers {
+        let made = answer?;
+        all.push(made)?;
     }
     Ok(all)
 }

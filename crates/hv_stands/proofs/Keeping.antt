@@ -20,14 +20,15 @@ use Rattle.hv_history.specs.declared.state.Table.{Table}
 use Rattle.hv_history.specs.declared.state.Ending.{Ending}
 use Rattle.hv_history.specs.declared.state.Ending.TheVariants.{Committed, Aborted, Made, Dropped}
 use Rattle.hv_history.specs.declared.state.Transaction.{Transaction}
-use Rattle.hv_history.specs.State.{State, nothing_yet, numbered, changed, changed_at, unless_ended, while_open, opened, meant_in, meaning_in, means, first_known, started, given_id, given_in, owned, dropped, written_to, committed, ended, did, wrote_as, writes_of, written_by, commits, tables_behind, made_by, opening_tree, acted, after}
+use Rattle.hv_history.specs.State.{State, nothing_yet, numbered, changed, changed_at, unless_ended, while_open, opened, meant_in, meaning_in, means, first_known, started, given_id, given_in, owned, dropped, written_to, committed, ended, did, wrote_as, writes_of, written_by, commits, tables_behind, made_by, forgot, opening_tree, acted, after}
+use Rattle.hv_history.specs.JobsFit.{ForgotFits}
 use Rattle.hv_history.specs.Legal.{is_open, Fits, OpenedFits, GivenFits, CommitFits, CreateFits, DropFits, dropped_name, is_named_there, IsStatement, AllFit}
 use Rattle.hv_stands.specs.Files.{ending_of}
-use Rattle.hv_stands.specs.Sound.{IsRoutedWrite, HasOther, AreApart, KeepsAll, AreSoundTables, info_in, IsRoutedChange, ChangesAmong, IsSingle, given_of, owners_of, given_among, owner_among, AreGiven, IsDone, IsOfCommitted, AreOfCommitted, IsSound, IsSoundBase}
+use Rattle.hv_stands.specs.Sound.{IsRoutedWrite, HasOther, AreApart, AreSound, info_in, IsRoutedChange, ChangesAmong, IsSingle, given_of, owners_of, given_among, owner_among, AreGiven, IsDone, IsOfCommitted, AreOfCommitted, IsSound}
 use Rattle.hv_stands.proofs.Numbers.{same_one, none_is, found, changed-here, numbered-map, map-changed, map-more, numbered-more}
 use Rattle.hv_stands.proofs.Owning.{opened-given, created-given, gave-given}
-use Rattle.hv_stands.proofs.Written.{base-of, changes-among}
-use Rattle.hv_stands.proofs.Soundness.{all-mapped, all-more, all-numbered, all-changed, soundness-later, table-made-sound, changed-sound, owned-few, keeps-changed, keeps-behind}
+use Rattle.hv_stands.proofs.Written.{changes-among}
+use Rattle.hv_stands.proofs.Soundness.{all-mapped, all-more, all-numbered, all-changed, soundness-later, table-made-sound, changed-sound, owned-few}
 
 -- ---- a transaction is changed while it is open
 
@@ -195,7 +196,7 @@ single-with : (infos : List TableInfo) (next : Transaction) (statement : Stateme
     → ChangesAmong infos statement.meaning → IsSingle infos next
 single-with infos next statement one text changes = record { statement = statement; one = one; text = text; changes = changes }
 
-changes-in : (s : State) (text : List ℕ) → IsSoundBase s → ChangesAmong (map info_in s.tables) (meaning_in s text)
+changes-in : (s : State) (text : List ℕ) → IsSound s → ChangesAmong (map info_in s.tables) (meaning_in s text)
 unfolding meaning_in
 changes-in s text sound = by (tree_of text)
   where
@@ -207,7 +208,7 @@ changes-first : (infos : List TableInfo) (o now : Option Meaning) → ChangesAmo
 changes-first infos None now before next = next
 changes-first infos (Some m) now before next = before
 
-single-started : (s : State) (number : ℕ) (t : Transaction) → IsSoundBase s → IsSingle (map info_in s.tables) t → IsSingle (map info_in s.tables) (started s number t)
+single-started : (s : State) (number : ℕ) (t : Transaction) → IsSound s → IsSingle (map info_in s.tables) t → IsSingle (map info_in s.tables) (started s number t)
 single-started s zero t sound single =
     single-with (map info_in s.tables) (started s zero t) (meant_in s single.statement) (ap (λ ss. changed_at (meant_in s) ss zero) single.one) single.text
     (changes-first (map info_in s.tables) single.statement.meaning (meaning_in s single.statement.text) single.changes (changes-in s single.statement.text sound))
@@ -255,16 +256,16 @@ map-same {A} g f same xs (suc n) = slice xs n
 -- ---- entry by entry
 
 -- the entries are counted, and nothing else changed
-module _ (s now : State) (sound : IsSoundBase s) (tables : now.tables ≡ s.tables) (entries : now.entries ≡ s.entries + 1)
+module _ (s now : State) (sound : IsSound s) (tables : now.tables ≡ s.tables) (entries : now.entries ≡ s.entries + 1)
     (single : AllByRecursion (IsSingle (map info_in s.tables)) now.transactions) where
-  same-tables : AreSoundTables now.entries now.tables
+  same-tables : AreSound now.entries now.tables
   same-tables =
-      subst (λ ts. AreSoundTables now.entries ts) (sym tables)
-      (subst (λ n. AreSoundTables n s.tables) (sym entries) (soundness-later s.entries (s.entries + 1) s.tables sound.tables (omega arith)))
+      subst (λ ts. AreSound now.entries ts) (sym tables)
+      (subst (λ n. AreSound n s.tables) (sym entries) (soundness-later s.entries (s.entries + 1) s.tables sound.tables (omega arith)))
 
   pub with-tables : AreGiven (map given_of now.transactions) (map owners_of s.tables)
       → ((m : ℕ) → IsDone (numbered (map ending_of s.transactions) m) → IsDone (numbered (map ending_of now.transactions) m))
-      → IsSoundBase now
+      → IsSound now
   with-tables given later = record {
     tables = same-tables;
     single = subst (λ ts. AllByRecursion (IsSingle (map info_in ts)) now.transactions) (sym tables) single;
@@ -274,17 +275,17 @@ module _ (s now : State) (sound : IsSoundBase s) (tables : now.tables ≡ s.tabl
   }
 
 -- one transaction was changed, and its write ids are as before
-changed-open : (s now : State) (f : Transaction → Transaction) (n : ℕ) → IsSoundBase s → now.tables ≡ s.tables → now.entries ≡ s.entries + 1
+changed-open : (s now : State) (f : Transaction → Transaction) (n : ℕ) → IsSound s → now.tables ≡ s.tables → now.entries ≡ s.entries + 1
     → now.transactions ≡ changed (while_open f) s.transactions n → ((t : Transaction) → IsSingle (map info_in s.tables) t → IsSingle (map info_in s.tables) (f t)) → ((t : Transaction) → (f t).given ≡ t.given)
-    → IsSoundBase now
+    → IsSound now
 changed-open s now f n sound tables entries are single given =
     with-tables s now sound tables entries
     (subst (AllByRecursion (IsSingle (map info_in s.tables))) (sym are) (all-open (IsSingle (map info_in s.tables)) f single s.transactions n sound.single))
     (subst (λ gs. AreGiven gs (map owners_of s.tables)) (sym (ap (map given_of) are ∙ map-open given_of f given s.transactions n)) sound.given)
     (λ m done. subst (λ ts. IsDone (numbered (map ending_of ts) m)) (sym are) (done-stays f s.transactions n m done))
 
-opened-sound : (limits : Limits) (s now : State) (session : List ℕ) (number txn : ℕ) (text : List ℕ) → OpenedFits limits s txn text → IsSoundBase s
-    → now.tables ≡ s.tables → now.entries ≡ s.entries + 1 → now.transactions ≡ s.transactions ++ opened session number text ∷ [] → IsSoundBase now
+opened-sound : (limits : Limits) (s now : State) (session : List ℕ) (number txn : ℕ) (text : List ℕ) → OpenedFits limits s txn text → IsSound s
+    → now.tables ≡ s.tables → now.entries ≡ s.entries + 1 → now.transactions ≡ s.transactions ++ opened session number text ∷ [] → IsSound now
 opened-sound limits s now session number txn text fits sound tables entries are =
     with-tables s now sound tables entries
     (subst (AllByRecursion (IsSingle (map info_in s.tables))) (sym are)
@@ -295,7 +296,7 @@ opened-sound limits s now session number txn text fits sound tables entries are 
     (λ m done. subst (λ ts. IsDone (numbered (map ending_of ts) m)) (sym are) (done-more s.transactions (opened session number text) m done))
 
 -- a write id was given
-module _ (limits : Limits) (s now : State) (n k w : ℕ) (t : Transaction) (sound : IsSoundBase s) (at : numbered s.transactions n ≡ Some t) (fits : GivenFits limits s k w t)
+module _ (limits : Limits) (s now : State) (n k w : ℕ) (t : Transaction) (sound : IsSound s) (at : numbered s.transactions n ≡ Some t) (fits : GivenFits limits s k w t)
     (transactions : now.transactions ≡ changed (while_open (given_id k w)) s.transactions n) (tables : now.tables ≡ changed (owned n) s.tables k)
     (entries : now.entries ≡ s.entries + 1) where
   the-table : (table : Table) × (numbered s.tables k ≡ Some table) × (IsTrue table.is_live × (w ≡ length table.owners + 1))
@@ -325,15 +326,15 @@ module _ (limits : Limits) (s now : State) (n k w : ℕ) (t : Transaction) (soun
       all-mapped (IsOfCommitted endings table.owners) (IsOfCommitted endings (table.owners ++ m ∷ []))
       (λ written is. (is.0, numbered-more table.owners m written.write is.0 is.1, is.2)) table.writes each
 
-  gave-sound : IsSoundBase now
+  gave-sound : IsSound now
   gave-sound =
       let there = the-table in
       let table : Table = there.0 in
       let ends : map ending_of now.transactions ≡ map ending_of s.transactions =
       ap (map ending_of) transactions ∙ map-open ending_of (given_id k w) (λ t. refl) s.transactions n in
       record {
-        tables = subst (λ ts. AreSoundTables now.entries ts) (sym tables)
-            (subst (λ m. AreSoundTables m (changed (owned n) s.tables k)) (sym entries)
+        tables = subst (λ ts. AreSound now.entries ts) (sym tables)
+            (subst (λ m. AreSound m (changed (owned n) s.tables k)) (sym entries)
             (changed-sound s.entries (s.entries + 1) s.tables k (owned n) table there.1 (λ t. refl)
             (λ t few. omega arith) (λ few. owned-few s.entries n table few) (λ h. record { each = h.each; apart = h.apart }) sound.tables));
         single = subst (λ infos. AllByRecursion (IsSingle infos) now.transactions)
@@ -349,7 +350,7 @@ module _ (limits : Limits) (s now : State) (n k w : ℕ) (t : Transaction) (soun
       }
 
 -- a commit
-module _ (s now : State) (n place : ℕ) (wrote : List Touch) (t : Transaction) (sound : IsSoundBase s) (at : numbered s.transactions n ≡ Some t) (unended : t.ending ≡ None)
+module _ (s now : State) (n place : ℕ) (wrote : List Touch) (t : Transaction) (sound : IsSound s) (at : numbered s.transactions n ≡ Some t) (unended : t.ending ≡ None)
     (transactions : now.transactions ≡ changed (while_open (committed place wrote)) s.transactions n)
     (tables : now.tables ≡ tables_behind (commits (Some t)) s.tables)
     (entries : now.entries ≡ s.entries + 1) where
@@ -390,12 +391,12 @@ module _ (s now : State) (n place : ℕ) (wrote : List Touch) (t : Transaction) 
       subst (λ (info : TableInfo). IsRoutedWrite info.shape x.1)
       (same_one (numbered infos x.0) is.info table.info is.here (numbered-map info_in s.tables x.0 ∙ ap (option_map info_in) there)) is.routed
 
-  wrote-none : now.tables ≡ s.tables → IsSoundBase now
+  wrote-none : now.tables ≡ s.tables → IsSound now
   wrote-none same =
       with-tables s now sound same entries singles
       (subst (λ gs. AreGiven gs (map owners_of s.tables)) (sym given-same) sound.given) done-later
 
-  wrote-one : (x : ℕ × Written) → IsWriteOf infos t x → now.tables ≡ changed (written_to x.1) s.tables x.0 → IsSoundBase now
+  wrote-one : (x : ℕ × Written) → IsWriteOf infos t x → now.tables ≡ changed (written_to x.1) s.tables x.0 → IsSound now
   wrote-one x is made =
       let before : List (Option Ending) = map ending_of s.transactions in
       let there = owner-table (map owners_of s.tables) s.tables x.0 x.1.write n refl
@@ -405,8 +406,8 @@ module _ (s now : State) (n place : ℕ) (wrote : List Touch) (t : Transaction) 
       let later : AllByRecursion (AreOfCommitted (map ending_of now.transactions)) s.tables =
       committed-later before (map ending_of now.transactions) done-later s.tables sound.committed in
       record {
-        tables = subst (λ ts. AreSoundTables now.entries ts) (sym made)
-            (subst (λ m. AreSoundTables m (changed (written_to x.1) s.tables x.0)) (sym entries)
+        tables = subst (λ ts. AreSound now.entries ts) (sym made)
+            (subst (λ m. AreSound m (changed (written_to x.1) s.tables x.0)) (sym entries)
             (changed-sound s.entries (s.entries + 1) s.tables x.0 (written_to x.1) table there.1 (λ t. refl)
             (λ t few. omega arith) (λ few. omega arith)
             (λ h. record {
@@ -424,22 +425,22 @@ module _ (s now : State) (n place : ℕ) (wrote : List Touch) (t : Transaction) 
             later);
       }
 
-  committed-sound : IsSoundBase now
+  committed-sound : IsSound now
   committed-sound = by (one-write infos t single-there)
     where
-      by : IsOneWrite infos t (commits (Some t)) → IsSoundBase now
+      by : IsOneWrite infos t (commits (Some t)) → IsSound now
       by (inl none) = wrote-none (tables ∙ ap (λ ws. tables_behind ws s.tables) none)
       by (inr one) = wrote-one one.0 one.2 (tables ∙ ap (λ ws. tables_behind ws s.tables) one.1)
 
 -- a table was made
-created-sound : (s now : State) (n k place : ℕ) (t : Transaction) → IsSoundBase s → numbered s.transactions n ≡ Some t → CreateFits s k t
+created-sound : (s now : State) (n k place : ℕ) (t : Transaction) → IsSound s → numbered s.transactions n ≡ Some t → CreateFits s k t
     → now.transactions ≡ changed (while_open (ended (Made place k))) s.transactions n → now.tables ≡ s.tables ++ made_by k (Some t) ∷ []
-    → now.entries ≡ s.entries + 1 → IsSoundBase now
+    → now.entries ≡ s.entries + 1 → IsSound now
 created-sound s now n k place t sound at fits transactions tables entries =
     let made : Table = made_by k (Some t) in
     record {
-      tables = subst (λ ts. AreSoundTables now.entries ts) (sym tables)
-          (subst (λ m. AreSoundTables m (s.tables ++ made ∷ [])) (sym entries)
+      tables = subst (λ ts. AreSound now.entries ts) (sym tables)
+          (subst (λ m. AreSound m (s.tables ++ made ∷ [])) (sym entries)
           (table-made-sound (s.entries + 1) s.tables made
           (soundness-later s.entries (s.entries + 1) s.tables sound.tables (omega arith))
           fits.flat fits.next (omega arith) (record { each = tt; apart = tt })));
@@ -468,9 +469,9 @@ named-table name None named = cc
 named-table name (Some table) named = (table, refl)
 
 -- a table was dropped
-dropped-sound : (s now : State) (n k place : ℕ) (table : Table) → IsSoundBase s → numbered s.tables k ≡ Some table
+dropped-sound : (s now : State) (n k place : ℕ) (table : Table) → IsSound s → numbered s.tables k ≡ Some table
     → now.transactions ≡ changed (while_open (ended (Dropped place k))) s.transactions n → now.tables ≡ changed dropped s.tables k
-    → now.entries ≡ s.entries + 1 → IsSoundBase now
+    → now.entries ≡ s.entries + 1 → IsSound now
 dropped-sound s now n k place table sound at transactions tables entries =
     let infos : List TableInfo = map info_in s.tables in
     let endings : List (Option Ending) = map ending_of now.transactions in
@@ -479,8 +480,8 @@ dropped-sound s now n k place table sound at transactions tables entries =
     (λ m done. subst (λ ts. IsDone (numbered (map ending_of ts) m)) (sym transactions) (done-stays (ended (Dropped place k)) s.transactions n m done))
     s.tables sound.committed in
     record {
-      tables = subst (λ ts. AreSoundTables now.entries ts) (sym tables)
-          (subst (λ m. AreSoundTables m (changed dropped s.tables k)) (sym entries)
+      tables = subst (λ ts. AreSound now.entries ts) (sym tables)
+          (subst (λ m. AreSound m (changed dropped s.tables k)) (sym entries)
           (changed-sound s.entries (s.entries + 1) s.tables k dropped table at (λ t. refl)
           (λ t few. omega arith) (λ few. omega arith) (λ h. record { each = h.each; apart = h.apart }) sound.tables));
       single = subst (λ (xs : List TableInfo). AllByRecursion (IsSingle xs) now.transactions)
@@ -494,76 +495,74 @@ dropped-sound s now n k place table sound at transactions tables entries =
           (all-changed (AreOfCommitted endings) (AreOfCommitted endings) dropped s.tables k table at (λ t h. h) (λ h. h) later);
     }
 
+-- ---- entries of jobs, and of forgetting
+
+-- the entries are counted, and nothing else changed of tables and transactions
+quiet-sound : (s now : State) → IsSound s → now.tables ≡ s.tables → now.transactions ≡ s.transactions → now.entries ≡ s.entries + 1 → IsSound now
+quiet-sound s now sound tables transactions entries =
+    with-tables s now sound tables entries
+    (subst (AllByRecursion (IsSingle (map info_in s.tables))) (sym transactions) sound.single)
+    (subst (λ (ts : List Transaction). AreGiven (map given_of ts) (map owners_of s.tables)) (sym transactions) sound.given)
+    (λ m done. subst (λ (ts : List Transaction). IsDone (numbered (map ending_of ts) m)) (sym transactions) done)
+
+-- an id was forgotten
+forgot-sound : (s now : State) (k write : ℕ) (table : Table) → IsSound s → numbered s.tables k ≡ Some table → now.tables ≡ changed (forgot write) s.tables k
+    → now.transactions ≡ s.transactions → now.entries ≡ s.entries + 1 → IsSound now
+forgot-sound s now k write table sound at tables transactions entries = record {
+  tables = subst (λ ts. AreSound now.entries ts) (sym tables)
+      (subst (λ m. AreSound m (changed (forgot write) s.tables k)) (sym entries)
+      (changed-sound s.entries (s.entries + 1) s.tables k (forgot write) table at (λ t. refl)
+      (λ t few. omega arith) (λ few. omega arith) (λ h. record { each = h.each; apart = h.apart }) sound.tables));
+  single = subst (λ infos. AllByRecursion (IsSingle infos) now.transactions)
+      (sym (ap (map info_in) tables ∙ map-same info_in (forgot write) (λ t. refl) s.tables k))
+      (subst (AllByRecursion (IsSingle (map info_in s.tables))) (sym transactions) sound.single);
+  given = subst (λ (ts : List Transaction). AreGiven (map given_of ts) (map owners_of now.tables)) (sym transactions)
+      (subst (λ os. AreGiven (map given_of s.transactions) os) (sym (ap (map owners_of) tables ∙ map-same owners_of (forgot write) (λ t. refl) s.tables k)) sound.given);
+  committed = subst (λ (ts : List Transaction). AllByRecursion (AreOfCommitted (map ending_of ts)) now.tables) (sym transactions)
+      (subst (λ ts. AllByRecursion (AreOfCommitted (map ending_of s.transactions)) ts) (sym tables)
+      (all-changed (AreOfCommitted (map ending_of s.transactions)) (AreOfCommitted (map ending_of s.transactions)) (forgot write) s.tables k table at
+      (λ t h. h) (λ h. h) sound.committed));
+}
+
 -- ---- the law
 
-pub base-after : (limits : Limits) (s : State) (event : Entry) → Fits limits s event → IsSoundBase s → IsSoundBase (after s event)
+pub sound-after : (limits : Limits) (s : State) (event : Entry) → Fits limits s event → IsSound s → IsSound (after s event)
 unfolding acted
-base-after limits s (entry.Boot run) fits sound =
+sound-after limits s (entry.Boot run) fits sound =
     with-tables s (after s (entry.Boot run)) sound refl refl sound.single sound.given (λ m done. done)
-base-after limits s (entry.Opened txn session number text) fits sound =
+sound-after limits s (entry.Opened txn session number text) fits sound =
     opened-sound limits s (after s (entry.Opened txn session number text)) session number txn.0 text fits sound refl refl refl
-base-after limits s (entry.Start txn statement) fits sound =
+sound-after limits s (entry.Start txn statement) fits sound =
     changed-open s (after s (entry.Start txn statement)) (started s statement) txn.0 sound refl refl refl
     (λ t single. single-started s statement t sound single) (λ t. refl)
-base-after limits s (entry.Given txn table write) fits sound =
+sound-after limits s (entry.Given txn table write) fits sound =
     let here = found (GivenFits limits s table.0 write.0) (numbered s.transactions txn.0) fits in
     gave-sound limits s (after s (entry.Given txn table write)) txn.0 table.0 write.0 here.0 sound here.1 here.2 refl refl refl
-base-after limits s (entry.Commit txn wrote) fits sound =
+sound-after limits s (entry.Commit txn wrote) fits sound =
     let here = found (CommitFits s wrote) (numbered s.transactions txn.0) fits in
     committed-sound s (after s (entry.Commit txn wrote)) txn.0 s.entries wrote here.0 sound here.1 (still-open here.0 here.2.running.unended) refl
     (ap (λ o. tables_behind (commits o) s.tables) here.1) refl
-base-after limits s (entry.Abort txn cause) fits sound =
+sound-after limits s (entry.Abort txn cause) fits sound =
     changed-open s (after s (entry.Abort txn cause)) (ended (Aborted s.entries cause)) txn.0 sound refl refl refl
     (λ t single. single-same (map info_in s.tables) t (ended (Aborted s.entries cause) t) refl single) (λ t. refl)
-base-after limits s (entry.Create txn table) fits sound =
+sound-after limits s (entry.Create txn table) fits sound =
     let here = found (CreateFits s table.0) (numbered s.transactions txn.0) fits in
     created-sound s (after s (entry.Create txn table)) txn.0 table.0 s.entries here.0 sound here.1 here.2 refl
     (ap (λ o. s.tables ++ made_by table.0 o ∷ []) here.1) refl
-base-after limits s (entry.Drop txn table) fits sound =
+sound-after limits s (entry.Drop txn table) fits sound =
     let here = found (DropFits s table.0) (numbered s.transactions txn.0) fits in
     let there = named-table (dropped_name (opening_tree here.0)) (numbered s.tables table.0) here.2.named in
     dropped-sound s (after s (entry.Drop txn table)) txn.0 table.0 s.entries there.0 sound there.1 refl refl refl
-base-after limits s event fits sound = absurd fits
-
--- ---- without jobs, and where no id was forgotten
-
-jobs-after : (limits : Limits) (s : State) (event : Entry) → Fits limits s event → (after s event).jobs ≡ s.jobs
-unfolding acted
-jobs-after limits s (entry.Boot run) fits = refl
-jobs-after limits s (entry.Opened txn session number text) fits = refl
-jobs-after limits s (entry.Start txn statement) fits = refl
-jobs-after limits s (entry.Given txn table write) fits = refl
-jobs-after limits s (entry.Commit txn wrote) fits = refl
-jobs-after limits s (entry.Abort txn cause) fits = refl
-jobs-after limits s (entry.Create txn table) fits = refl
-jobs-after limits s (entry.Drop txn table) fits = refl
-jobs-after limits s event fits = absurd fits
-
-keeps-after : (limits : Limits) (s : State) (event : Entry) → Fits limits s event → AllByRecursion KeepsAll s.tables → AllByRecursion KeepsAll (after s event).tables
-unfolding acted
-keeps-after limits s (entry.Boot run) fits h = h
-keeps-after limits s (entry.Opened txn session number text) fits h = h
-keeps-after limits s (entry.Start txn statement) fits h = h
-keeps-after limits s (entry.Given txn table write) fits h = keeps-changed (owned txn.0) (λ t. refl) s.tables table.0 h
-keeps-after limits s (entry.Commit txn wrote) fits h = keeps-behind (commits (numbered s.transactions txn.0)) s.tables h
-keeps-after limits s (entry.Abort txn cause) fits h = h
-keeps-after limits s (entry.Create txn table) fits h = all-more KeepsAll s.tables (made_by table.0 (numbered s.transactions txn.0)) h refl
-keeps-after limits s (entry.Drop txn table) fits h = keeps-changed dropped (λ t. refl) s.tables table.0 h
-keeps-after limits s event fits h = absurd fits
-
-sound-with : (s : State) → IsSoundBase s → s.jobs ≡ [] → AllByRecursion KeepsAll s.tables → IsSound s
-sound-with s base none keeping = record {
-  no_jobs = none;
-  tables = record { flat = base.tables.flat; in_order = base.tables.in_order; few = base.tables.few; keeping = keeping; written = base.tables.written };
-  single = base.single;
-  given = base.given;
-  committed = base.committed;
-}
-
-pub sound-after : (limits : Limits) (s : State) (event : Entry) → Fits limits s event → IsSound s → IsSound (after s event)
-sound-after limits s event fits sound =
-    sound-with (after s event) (base-after limits s event fits (base-of s sound)) (jobs-after limits s event fits ∙ sound.no_jobs)
-    (keeps-after limits s event fits sound.tables.keeping)
+sound-after limits s (entry.Asked job table partition kind by) fits sound = quiet-sound s (after s (entry.Asked job table partition kind by)) sound refl refl refl
+sound-after limits s (entry.Picked job mark) fits sound = quiet-sound s (after s (entry.Picked job mark)) sound refl refl refl
+sound-after limits s (entry.Published job low high mark) fits sound = quiet-sound s (after s (entry.Published job low high mark)) sound refl refl refl
+sound-after limits s (entry.Empty job) fits sound = quiet-sound s (after s (entry.Empty job)) sound refl refl refl
+sound-after limits s (entry.Cleaned job) fits sound = quiet-sound s (after s (entry.Cleaned job)) sound refl refl refl
+sound-after limits s (entry.Failed job cause) fits sound = quiet-sound s (after s (entry.Failed job cause)) sound refl refl refl
+sound-after limits s (entry.Forgot table write) fits sound =
+    let here = found (ForgotFits limits s write.0) (numbered s.tables table.0) fits in
+    forgot-sound s (after s (entry.Forgot table write)) table.0 write.0 here.0 sound here.1 refl refl refl
+sound-after limits s event fits sound = absurd fits
 
 pub sound-all : (limits : Limits) (s : State) (more : List Entry) → AllFit limits s more → IsSound s → IsSound (fold after s more)
 sound-all limits s [] fit sound = sound
@@ -572,8 +571,7 @@ sound-all limits s (event ∷ more) fit sound = sound-all limits (after s event)
 -- the book of no entry
 pub nothing-sound : IsSound nothing_yet
 nothing-sound = record {
-  no_jobs = refl;
-  tables = record { flat = tt; in_order = tt; few = tt; keeping = tt; written = tt };
+  tables = record { flat = tt; in_order = tt; few = tt; written = tt };
   single = tt;
   given = record { has_owner = λ txn table write e. none-given txn table write e; is_given = λ txn table write e. none-owned txn table write e };
   committed = tt;

@@ -2,7 +2,7 @@ pub mod Written
 pub mod Meanings
 pub mod Soundness
 pub mod Tables
-pub mod StandingFiles
+pub mod Places
 pub mod Ordered
 pub mod StandingRows
 pub mod FileRecords
@@ -10,7 +10,6 @@ pub mod SeenTables
 pub mod Numbers
 pub mod Owning
 pub mod Keeping
-pub mod JobKeeping
 pub mod MadeFiles
 pub mod Behind
 pub mod Begun
@@ -21,5 +20,5 @@ pub mod SeeingEnough
 pub mod PutFiles
 pub mod OwnPlaces
 pub mod OwnFiles
-pub mod StatementFiles
+pub mod KeptFiles
 pub mod Worked

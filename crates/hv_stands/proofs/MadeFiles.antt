@@ -1,15 +1,13 @@
--- Which file a commit makes at a place, and which the commits of a table make.
-use Rattle.std.proofs.Common.{refl, ◌≡◌, ℕ, ◌<◌, ◌⊎◌, inl, inr, nat_eq, Bool, true, false, cond, Option, Some, None, List, [], ◌∷◌, ◌++◌, sym, ap, ◌∙◌}
+-- Which file a statement writes at a place.
+use Rattle.std.proofs.Common.{refl, ◌≡◌, ℕ, ◌<◌, ◌⊎◌, inl, inr, nat_eq, Bool, true, false, cond, Option, Some, None, List, sym, ap, ◌∙◌}
 use Rattle.std.specs.Cmp.Lexicographic.{pointwise, bytes_decides}
-use Rattle.std.specs.List.{AllByRecursion}
 use Rattle.hv_dirs.specs.Names.{write_end}
 use Rattle.hv_dirs.proofs.OwnNames.{behind}
 use Rattle.hv_dirs.proofs.NameLemmas.{own_rest, own-text, kind-same, fixed-parts}
 use Rattle.hv_shelf.specs.declared.place.Place.{Place}
 use Rattle.hv_logic.specs.declared.catalog.Shape.{Shape}
 use Rattle.hv_history.specs.declared.state.Written.{Written}
-use Rattle.hv_history.specs.State.{first_known}
-use Rattle.hv_stands.specs.Files.{commit_file, own_dir, file_at, file_in}
+use Rattle.hv_stands.specs.Files.{commit_file, own_dir, file_at}
 use Rattle.hv_stands.proofs.Numbers.{none_is, either}
 
 -- ---- two write ids have two own directories of each kind
@@ -92,58 +90,3 @@ module _ (shape : Shape) where
           ap (is_own kind written) dir
           ∙ other-dir (own_dir kind written.write 0) (own_dir deletes write statement)
           (λ same. let both = own_dir-same kind deletes written.write 0 write statement small room same in other both.1)
-
-  -- ---- those of several commits
-
-  pub file-or-last : (writes : List Written) (written : Written) (place : Place) (bytes : List ℕ) → file_in shape (writes ++ written ∷ []) place ≡ Some bytes
-      → (file_in shape writes place ≡ Some bytes) ⊎ (file_at shape written place ≡ Some bytes)
-  file-or-last [] written place bytes e = by (file_at shape written place) e
-    where
-      by : (o : Option (List ℕ)) → first_known o None ≡ Some bytes → (file_in shape [] place ≡ Some bytes) ⊎ (o ≡ Some bytes)
-      by None e = inl e
-      by (Some file) e = inr e
-  file-or-last (first ∷ writes) written place bytes e = by (file_at shape first place) (file-or-last writes written place bytes) e
-    where
-      by : (o : Option (List ℕ))
-          → (file_in shape (writes ++ written ∷ []) place ≡ Some bytes → (file_in shape writes place ≡ Some bytes) ⊎ (file_at shape written place ≡ Some bytes))
-          → first_known o (file_in shape (writes ++ written ∷ []) place) ≡ Some bytes
-          → (first_known o (file_in shape writes place) ≡ Some bytes) ⊎ (file_at shape written place ≡ Some bytes)
-      by None rest e = rest e
-      by (Some file) rest e = inl e
-
-  pub file-none : (writes : List Written) (written : Written) (place : Place) → file_in shape (writes ++ written ∷ []) place ≡ None → file_in shape writes place ≡ None
-  file-none [] written place e = refl
-  file-none (first ∷ writes) written place e = by (file_at shape first place) (file-none writes written place) e
-    where
-      by : (o : Option (List ℕ)) → (file_in shape (writes ++ written ∷ []) place ≡ None → file_in shape writes place ≡ None)
-          → first_known o (file_in shape (writes ++ written ∷ []) place) ≡ None → first_known o (file_in shape writes place) ≡ None
-      by None rest e = rest e
-      by (Some file) rest e = cc
-
-  -- behind others that make none there
-  pub file-last : (writes : List Written) (written : Written) (place : Place) → ((bytes : List ℕ) → file_in shape writes place ≡ Some bytes → ⊥)
-      → file_in shape (writes ++ written ∷ []) place ≡ file_at shape written place
-  file-last [] written place none = by (file_at shape written place)
-    where
-      by : (o : Option (List ℕ)) → first_known o None ≡ o
-      by None = refl
-      by (Some file) = refl
-  file-last (first ∷ writes) written place none = by (file_at shape first place) (file-last writes written place) none
-    where
-      by : (o : Option (List ℕ))
-          → (((bytes : List ℕ) → file_in shape writes place ≡ Some bytes → ⊥) → file_in shape (writes ++ written ∷ []) place ≡ file_at shape written place)
-          → ((bytes : List ℕ) → first_known o (file_in shape writes place) ≡ Some bytes → ⊥)
-          → first_known o (file_in shape (writes ++ written ∷ []) place) ≡ file_at shape written place
-      by None rest none = rest none
-      by (Some file) rest none = absurd (none file refl)
-
-  -- the write whose file it is
-  pub file-write : (P : Written → Type 0) (writes : List Written) (place : Place) (bytes : List ℕ) → file_in shape writes place ≡ Some bytes → AllByRecursion P writes
-      → (written : Written) × IsMadeBy shape written place bytes × P written
-  file-write P [] place bytes e each = cc
-  file-write P (first ∷ writes) place bytes e each = by (file_at shape first place) refl (λ h. file-write P writes place bytes h each.1) e
-    where
-      by : (o : Option (List ℕ)) → file_at shape first place ≡ o → (file_in shape writes place ≡ Some bytes → (written : Written) × IsMadeBy shape written place bytes × P written)
-          → first_known o (file_in shape writes place) ≡ Some bytes → (written : Written) × IsMadeBy shape written place bytes × P written
-      by None is rest e = rest e
-      by (Some file) is rest e = (first, made-by first place bytes (is ∙ e), each.0)

@@ -1,39 +1,41 @@
--- A transaction with one write id: its places, where nothing was made yet; and one with none.
-use Rattle.std.proofs.Common.{refl, ◌≡◌, ℕ, ◌<◌, ◌==◌, ◌⊎◌, inl, inr, true, false, cond, if◌then◌else◌, Some, None, List, [], ◌∷◌, map, option_map, sym, ap, ◌∙◌, subst, eqb-true, eq-eqb}
-use Rattle.std.specs.FinMap as tree
+-- A transaction with one write id, and its places; and one with none.
+use Rattle.std.proofs.Common.{refl, ◌≡◌, ℕ, ◌==◌, ◌⊎◌, inl, inr, true, false, cond, if◌then◌else◌, Some, None, [], ◌∷◌, map, option_map, sym, ap, ◌∙◌, eqb-true, eq-eqb}
 use Rattle.hv_shelf.specs.declared.place.Place.{Place}
-use Rattle.hv_shelf.specs.Disk.{Tree}
 use Rattle.hv_history.specs.declared.state.Table.{Table}
 use Rattle.hv_history.specs.declared.state.Transaction.{Transaction}
 use Rattle.hv_history.specs.State.{State, numbered, given_in}
-use Rattle.hv_dirs.specs.Names.{write_end}
-use Rattle.hv_stands.specs.Files.{own_dir, made_at, ending_of, IsOwn, IsUndone, IsLoose, Stands}
-use Rattle.hv_stands.specs.Sound.{KeepsAll, given_of, owners_of, given_among, owner_among, IsDone, IsSound}
+use Rattle.hv_stands.specs.Files.{own_dir, IsOwn}
+use Rattle.hv_stands.specs.Sound.{given_of, owners_of, given_among, owner_among, IsSound}
 use Rattle.hv_stands.specs.Running.{IsOfId}
 use Rattle.hv_stands.proofs.Numbers.{one_value, none_is, either, numbered-map}
-use Rattle.hv_stands.proofs.Soundness.{all-numbered}
 use Rattle.hv_stands.proofs.Keeping.{owner-table}
-use Rattle.hv_stands.proofs.StandingFiles.{kept-none, being-written-unmade}
-use Rattle.hv_stands.proofs.OwnPlaces.{of-id-decided}
 
 -- what it was given
 given-there : (s : State) (txn : ℕ) (t : Transaction) → numbered s.transactions txn ≡ Some t → numbered (map given_of s.transactions) txn ≡ Some t.given
 given-there s txn t at = numbered-map given_of s.transactions txn ∙ ap (option_map given_of) at
 
--- the transaction of an own place was given its write id
+-- the transaction of a write id was given it
+id-given : (s : State) (txn : ℕ) (t : Transaction) → IsSound s → numbered s.transactions txn ≡ Some t → (k write : ℕ) (table : Table)
+    → numbered s.tables k ≡ Some table → numbered table.owners write ≡ Some txn → given_in k t.given ≡ Some write
+id-given s txn t sound at k write table here owner =
+    ap (λ o. given_among o k) (sym (given-there s txn t at))
+    ∙ sound.given.is_given txn k write
+    (ap (λ o. owner_among o write) (numbered-map owners_of s.tables k ∙ ap (option_map owners_of) here) ∙ owner)
+
 own-given : (s : State) (txn : ℕ) (t : Transaction) → IsSound s → numbered s.transactions txn ≡ Some t → (place : Place) (own : IsOwn s.tables txn place)
     → given_in place.table.0 t.given ≡ Some own.write
-own-given s txn t sound at place own =
-    ap (λ o. given_among o place.table.0) (sym (given-there s txn t at))
-    ∙ sound.given.is_given txn place.table.0 own.write
-    (ap (λ o. owner_among o own.write) (numbered-map owners_of s.tables place.table.0 ∙ ap (option_map owners_of) own.is) ∙ own.owner)
+own-given s txn t sound at place own = id-given s txn t sound at place.table.0 own.write own.table own.is own.owner
 
--- without a write id it has no directory
+-- without a write id it has none, and so no directory
+pub unowned-id : (s : State) (txn : ℕ) (t : Transaction) → IsSound s → numbered s.transactions txn ≡ Some t → t.given ≡ []
+    → (k write : ℕ) (table : Table) → numbered s.tables k ≡ Some table → numbered table.owners write ≡ Some txn → ⊥
+unowned-id s txn t sound at none k write table here owner =
+    let is : given_in k [] ≡ Some write = ap (given_in k) (sym none) ∙ id-given s txn t sound at k write table here owner in
+    cc
+
 pub unowned : (s : State) (txn : ℕ) (t : Transaction) → IsSound s → numbered s.transactions txn ≡ Some t → t.given ≡ [] → (place : Place)
     → IsOwn s.tables txn place → ⊥
-unowned s txn t sound at none place own =
-    let is : given_in place.table.0 [] ≡ Some own.write = ap (given_in place.table.0) (sym none) ∙ own-given s txn t sound at place own in
-    cc
+unowned s txn t sound at none place own = unowned-id s txn t sound at none place.table.0 own.write own.table own.is own.owner
 
 -- ---- one write id
 
@@ -70,41 +72,3 @@ own-of-id s txn k w t sound at given place own =
       statement = own.statement;
       dir = own.dir ∙ ap (λ (x : ℕ). own_dir own.deletes x own.statement) both.1;
     }
-
-pub of-id-own : (s : State) (txn k w : ℕ) → IsSound s → IsIdOf s txn k w → (place : Place) → IsOfId k w place → IsOwn s.tables txn place
-of-id-own s txn k w sound id place of = record {
-  table = id.table;
-  is = ap (numbered s.tables) of.table_is ∙ id.here;
-  deletes = of.deletes;
-  write = w;
-  statement = of.statement;
-  dir = of.dir;
-  owner = id.owner;
-  kept = kept-none id.table.forgotten w (all-numbered KeepsAll s.tables k id.table id.here sound.tables.keeping);
-}
-
--- ---- while it is open
-
-module _ (s : State) (txn k w : ℕ) (t : Transaction) (sound : IsSound s) (room : s.entries < write_end) (at : numbered s.transactions txn ≡ Some t)
-    (unended : t.ending ≡ None) (id : IsIdOf s txn k w) where
-  ending-none : numbered (map ending_of s.transactions) txn ≡ Some None
-  ending-none = numbered-map ending_of s.transactions txn ∙ ap (option_map ending_of) at ∙ ap (λ o. Some o) unended
-
-  -- nothing was made in its directories
-  pub unmade : (place : Place) → IsOfId k w place → (bytes : List ℕ) → made_at s.tables place ≡ Some bytes → ⊥
-  unmade place of bytes made =
-      being-written-unmade s place sound room txn (of-id-own s txn k w sound id place of) (λ done. subst IsDone ending-none done) bytes made
-
-  -- and whatever stands there is loose
-  pub puts-there : (before now : Tree) → ((other : Place) → (IsOfId k w other → ⊥) → tree.get now other ≡ tree.get before other) → Stands s before → Stands s now
-  puts-there before now others stands = record {
-    made = λ place bytes is. others place (λ of. unmade place of bytes is) ∙ stands.made place bytes is;
-    other = λ place bytes is none. by place bytes is none (of-id-decided k w place);
-    encoded = stands.encoded;
-  }
-    where
-      by : (place : Place) (bytes : List ℕ) → tree.get now place ≡ Some bytes → made_at s.tables place ≡ None
-          → IsOfId k w place ⊎ (IsOfId k w place → ⊥) → IsLoose s place
-      by place bytes is none (inl of) =
-          record { txn = txn; own = of-id-own s txn k w sound id place of; undone = subst IsUndone (sym ending-none) tt }
-      by place bytes is none (inr apart) = stands.other place bytes (sym (others place apart) ∙ is) none

@@ -26,7 +26,7 @@ use Rattle.hv_route.proofs.StandingLemmas.{files-have-rows, files-have-records}
 use Rattle.hv_stands.specs.Files.{commit_file, file_of, own_dir, own_place, file_at, place_of_file, with_file, with_files}
 use Rattle.hv_stands.specs.Running.{IsOfId}
 use Rattle.hv_stands.proofs.Numbers.{either}
-use Rattle.hv_stands.proofs.StandingFiles.{same-place, place-tied}
+use Rattle.hv_stands.proofs.Places.{same-place, place-tied}
 use Rattle.hv_stands.proofs.FileRecords.{IsKeyOf, file-key, key-file, less-other}
 use Rattle.hv_stands.proofs.MadeFiles.{own_dir-same, same-dir, dir-tied, made-own}
 

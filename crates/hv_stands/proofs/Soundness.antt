@@ -1,12 +1,11 @@
 -- Tables stay sound: what holds of all tables goes on where one is changed, and where one is added.
-use Rattle.std.proofs.Common.{refl, ◌≡◌, ℕ, zero, suc, ◌+◌, ◌<◌, Some, List, [], ◌∷◌, ◌++◌, length, sym, ap, ◌∙◌, subst, arith, length-append}
+use Rattle.std.proofs.Common.{◌≡◌, ℕ, zero, suc, ◌+◌, ◌<◌, Some, List, [], ◌∷◌, ◌++◌, length, sym, ap, ◌∙◌, subst, arith, length-append}
 use Rattle.std.specs.List.{slice_get, AllByRecursion}
 use Rattle.hv_history.specs.declared.state.Table.{Table}
-use Rattle.hv_history.specs.declared.state.Written.{Written}
-use Rattle.hv_history.specs.State.{numbered, changed, changed_at, owned, written_to, tables_behind}
+use Rattle.hv_history.specs.State.{numbered, changed, changed_at, owned}
 use Rattle.hv_logic.specs.declared.catalog.TableInfo.{TableInfo}
 use Rattle.hv_route.specs.Back.{AreFlat}
-use Rattle.hv_stands.specs.Sound.{HasFlatParts, NumberedFrom, HasSoundWrites, HasFewOwners, KeepsAll, AreSoundTables}
+use Rattle.hv_stands.specs.Sound.{HasFlatParts, NumberedFrom, HasSoundWrites, HasFewOwners, AreSound}
 
 -- ---- what holds of all
 
@@ -63,7 +62,7 @@ in_order-changed f same first tables (suc n) h = in_order-changed_at f same firs
 
 -- ---- the laws
 
-pub soundness-later : (most next : ℕ) (tables : List Table) → AreSoundTables most tables → most < next → AreSoundTables next tables
+pub soundness-later : (most next : ℕ) (tables : List Table) → AreSound most tables → most < next → AreSound next tables
 soundness-later most next tables sound before = record {
   flat = sound.flat;
   in_order = sound.in_order;
@@ -72,8 +71,8 @@ soundness-later most next tables sound before = record {
 }
 
 -- one table more
-pub table-made-sound : (most : ℕ) (tables : List Table) (made : Table) → AreSoundTables most tables → HasFlatParts made → made.info.table.0 ≡ length tables + 1
-    → HasFewOwners most made → HasSoundWrites made → AreSoundTables most (tables ++ made ∷ [])
+pub table-made-sound : (most : ℕ) (tables : List Table) (made : Table) → AreSound most tables → HasFlatParts made → made.info.table.0 ≡ length tables + 1
+    → HasFewOwners most made → HasSoundWrites made → AreSound most (tables ++ made ∷ [])
 table-made-sound most tables made sound flat number few written = record {
   flat = all-more HasFlatParts tables made sound.flat flat;
   in_order = numbered-more 1 tables made sound.in_order (omega (arith, number));
@@ -92,7 +91,7 @@ pub changed-sound : (most next : ℕ) (tables : List Table) (k : ℕ) (f : Table
     → ((t : Table) → (f t).info ≡ t.info)
     → ((t : Table) → HasFewOwners most t → HasFewOwners next t) → (HasFewOwners most table → HasFewOwners next (f table))
     → (HasSoundWrites table → HasSoundWrites (f table))
-    → AreSoundTables most tables → AreSoundTables next (changed f tables k)
+    → AreSound most tables → AreSound next (changed f tables k)
 changed-sound most next tables k f table at info later few written sound = record {
   flat = all-changed HasFlatParts HasFlatParts f tables k table at (λ t h. h)
       (λ h. subst (λ (i : TableInfo). AreFlat i.shape.parts) (sym (info table)) h) sound.flat;
@@ -100,21 +99,3 @@ changed-sound most next tables k f table at info later few written sound = recor
   few = all-changed (HasFewOwners most) (HasFewOwners next) f tables k table at later few sound.few;
   written = all-changed HasSoundWrites HasSoundWrites f tables k table at (λ t h. h) written sound.written;
 }
-
--- ---- ids that weren't forgotten
-
-keeps-changed_at : (f : Table → Table) → ((t : Table) → (f t).forgotten ≡ t.forgotten) → (tables : List Table) (n : ℕ)
-    → AllByRecursion KeepsAll tables → AllByRecursion KeepsAll (changed_at f tables n)
-keeps-changed_at f same [] n h = tt
-keeps-changed_at f same (t ∷ tables) zero h = (same t ∙ h.0, h.1)
-keeps-changed_at f same (t ∷ tables) (suc n) h = (h.0, keeps-changed_at f same tables n h.1)
-
-pub keeps-changed : (f : Table → Table) → ((t : Table) → (f t).forgotten ≡ t.forgotten) → (tables : List Table) (n : ℕ)
-    → AllByRecursion KeepsAll tables → AllByRecursion KeepsAll (changed f tables n)
-keeps-changed f same tables zero h = h
-keeps-changed f same tables (suc n) h = keeps-changed_at f same tables n h
-
-pub keeps-behind : (ws : List (ℕ × Written)) (tables : List Table) → AllByRecursion KeepsAll tables → AllByRecursion KeepsAll (tables_behind ws tables)
-keeps-behind [] tables h = h
-keeps-behind (w ∷ ws) tables h =
-    keeps-behind ws (changed (written_to w.1) tables w.0) (keeps-changed (written_to w.1) (λ t. refl) tables w.0 h)

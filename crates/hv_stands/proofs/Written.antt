@@ -19,7 +19,7 @@ use Rattle.hv_history.specs.Shown.{listed_for}
 use Rattle.hv_history.specs.State.{State, numbered, seen_tables, means, content_of, written_by}
 use Rattle.hv_history.proofs.ShownLaws.{filled-change}
 use Rattle.hv_stands.specs.Files.{ending_of, IsEncoded}
-use Rattle.hv_stands.specs.Sound.{HasFlatParts, HasSoundWrites, info_in, ChangesAmong, IsOfCommitted, AreOfCommitted, IsSound, IsSoundBase}
+use Rattle.hv_stands.specs.Sound.{HasFlatParts, HasSoundWrites, info_in, ChangesAmong, IsOfCommitted, AreOfCommitted, IsSound}
 use Rattle.hv_stands.specs.Laws.{CanBeFile, HasFile}
 use Rattle.hv_stands.proofs.Numbers.{numbered-within, numbered-map}
 use Rattle.hv_stands.proofs.Soundness.{all-mapped, all-numbered}
@@ -29,23 +29,13 @@ use Rattle.hv_stands.proofs.StandingRows.{HasId, IsCounted, AreStanding, content
 use Rattle.hv_stands.proofs.FileRecords.{files-written, files-encoded}
 use Rattle.hv_stands.proofs.Tables.{ChangesTable, changes-table}
 
--- ---- what holds whatever jobs there are, and whichever ids were forgotten
-
-pub base-of : (s : State) → IsSound s → IsSoundBase s
-base-of s sound = record {
-  tables = record { flat = sound.tables.flat; in_order = sound.tables.in_order; few = sound.tables.few; written = sound.tables.written };
-  single = sound.single;
-  given = sound.given;
-  committed = sound.committed;
-}
-
 -- ---- the rows that stand in a table of a sound state
 
 counted : (endings : List (Option Ending)) (owners : List ℕ) (writes : List Written) → AllByRecursion (IsOfCommitted endings owners) writes → AllByRecursion IsCounted writes
 counted endings owners writes h =
     all-mapped (IsOfCommitted endings owners) IsCounted (λ written is. let within = numbered-within owners written.write is.0 is.1 in within.0) writes h
 
-rows-stand : (s : State) (number : ℕ) (table : Table) → IsSoundBase s → numbered s.tables number ≡ Some table → AreStanding (content_of table.writes)
+pub rows-stand : (s : State) (number : ℕ) (table : Table) → IsSound s → numbered s.tables number ≡ Some table → AreStanding (content_of table.writes)
 rows-stand s number table sound at =
     let writes = all-numbered HasSoundWrites s.tables number table at sound.tables.written in
     let committed = all-numbered (AreOfCommitted (map ending_of s.transactions)) s.tables number table at sound.committed in
@@ -64,9 +54,9 @@ pub record IsOfTables (s : State) (info : TableInfo) (effect : Effect) : Type 0 
   pub change : ChangesTable s.tables info effect
   pub gone : AreStanding effect.deletes
 
-pub of-base : (s : State) (tree : Stmt) (info : TableInfo) (effect : Effect) → IsSoundBase s → means s (Some tree) ≡ Some (Change info effect)
+pub of-tables : (s : State) (tree : Stmt) (info : TableInfo) (effect : Effect) → IsSound s → means s (Some tree) ≡ Some (Change info effect)
     → IsOfTables s info effect
-of-base s tree info effect sound is =
+of-tables s tree info effect sound is =
     let over = filled-change (listed_for s tree) (meaning_of (seen_tables s.tables) tree) info effect is in
     let change = changes-table s.tables sound.tables.in_order info effect tree over in
     record {
@@ -74,11 +64,7 @@ of-base s tree info effect sound is =
       gone = picked-stands (content_of change.table.writes) effect.deletes change.deletes (rows-stand s info.table.0 change.table sound change.here);
     }
 
-pub of-tables : (s : State) (tree : Stmt) (info : TableInfo) (effect : Effect) → IsSound s → means s (Some tree) ≡ Some (Change info effect)
-    → IsOfTables s info effect
-of-tables s tree info effect sound is = of-base s tree info effect (base-of s sound) is
-
-pub changes-among : (s : State) (tree : Stmt) → IsSoundBase s → ChangesAmong (map info_in s.tables) (means s (Some tree))
+pub changes-among : (s : State) (tree : Stmt) → IsSound s → ChangesAmong (map info_in s.tables) (means s (Some tree))
 changes-among s tree sound = by (means s (Some tree)) refl
   where
     by : (o : Option Meaning) → means s (Some tree) ≡ o → ChangesAmong (map info_in s.tables) o
@@ -86,7 +72,7 @@ changes-among s tree sound = by (means s (Some tree)) refl
     by (Some (Refused why)) is = tt
     by (Some (Listing names rows)) is = tt
     by (Some (Change info effect)) is =
-        let there = of-base s tree info effect sound is in
+        let there = of-tables s tree info effect sound is in
         record {
           here = numbered-map info_in s.tables info.table.0 ∙ ap (option_map info_in) there.change.here ∙ ap Some there.change.info_is;
           whole = there.change.whole;

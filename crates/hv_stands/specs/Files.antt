@@ -1,5 +1,5 @@
--- Which files a history makes: each commit has one in its own delta for each partition and bucket in which it inserted rows,
--- and one in its own delete delta for each in which it deleted rows; and which may stand beside.
+-- The files that a statement writes: one in its own delta for each partition and bucket in which it inserted rows, and one in its own
+-- delete delta for each in which it deleted rows; and which places are in own directories. Which files stand is said by hv_law_made.
 -- Source: Hive Transactions, base and delta directories. Built so far: transactions of one statement.
 use Rattle.std.specs.Prelude.{◌≡◌, ℕ, ◌==◌, Bool, true, false, IsFalse, if◌then◌else◌, nat_eq, Option, Some, None, List, [], ◌∷◌, map, fold}
 use Rattle.std.specs.List.{list_any, AllByRecursion}
@@ -14,14 +14,12 @@ use Rattle.hv_route.specs.declared.files.OutFile.{OutFile}
 use Rattle.hv_rowfile.specs.declared.record.Rec.{Rec}
 use Rattle.hv_rowfile.specs.Layout.{IsFile, file_spelling}
 use Rattle.hv_history.specs.hv_meaning.specs.Laws.{SaysParts}
-use Rattle.hv_history.specs.declared.entry.Entry.{Entry}
-use Rattle.hv_history.specs.declared.entry.Entry.TheVariants as entry
 use Rattle.hv_history.specs.declared.state.Ending.{Ending}
 use Rattle.hv_history.specs.declared.state.Ending.TheVariants.{Aborted}
 use Rattle.hv_history.specs.declared.state.Transaction.{Transaction}
 use Rattle.hv_history.specs.declared.state.Written.{Written}
 use Rattle.hv_history.specs.declared.state.Table.{Table}
-use Rattle.hv_history.specs.State.{State, first_known, numbered, after}
+use Rattle.hv_history.specs.State.{State, numbered}
 use Rattle.hv_dirs.specs.declared.names.DirName.TheVariants.{Own}
 use Rattle.hv_dirs.specs.Names.{text_of}
 
@@ -59,27 +57,14 @@ abbrev pub own_place : ℕ → List ℕ → Bool → ℕ → ℕ → Place
 own_place table partition deletes write bucket =
     record { table = record { 0 = table }; partition = partition; dir = own_dir deletes write 0; bucket = bucket }
 
--- the file that a commit makes at a place
+-- the file that a statement writes at a place
 abbrev pub file_at : Shape → Written → Place → Option (List ℕ)
 file_at shape written place =
     if pointwise nat_eq (own_dir false written.write 0) place.dir then commit_file shape false place.partition place.bucket written
     else if pointwise nat_eq (own_dir true written.write 0) place.dir then commit_file shape true place.partition place.bucket written
     else None
 
--- that of the first commit that makes one there
-abbrev pub file_in : Shape → List Written → Place → Option (List ℕ)
-file_in shape [] place = None
-file_in shape (written ∷ writes) place = first_known (file_at shape written place) (file_in shape writes place)
-
-abbrev pub made_in : Option Table → Place → Option (List ℕ)
-made_in None place = None
-made_in (Some table) place = file_in table.info.shape table.writes place
-
--- the file that the tables' commits make at a place
-unfoldable pub made_at : List Table → Place → Option (List ℕ)
-made_at tables place = made_in (numbered tables place.table.0) place
-
--- ---- which files may stand
+-- ---- own directories
 
 -- the place is in an own directory, of either kind, of a write id of this transaction, which may be of any statement, and
 -- isn't forgotten
@@ -119,13 +104,6 @@ pub record IsEncoded (shape : Shape) (written : Written) : Type 0 where
 abbrev pub AreEncoded : Table → Type 0
 AreEncoded table = AllByRecursion (IsEncoded table.info.shape) table.writes
 
--- Each file that the history makes stands. Every other place is loose, and may hold anything: a write may have failed
--- there, or a run may have stopped before its commit.
-pub record Stands (state : State) (files : Tree) : Type 0 where
-  pub made : (place : Place) (bytes : List ℕ) → made_at state.tables place ≡ Some bytes → tree.get files place ≡ Some bytes
-  pub other : (place : Place) (bytes : List ℕ) → tree.get files place ≡ Some bytes → made_at state.tables place ≡ None → IsLoose state place
-  pub encoded : AllByRecursion AreEncoded state.tables
-
 -- ---- files that are put
 
 -- the file at a place, where there is one
@@ -139,16 +117,3 @@ with_file table write files file =
 -- the files of a change in a table under a write id, put one after another
 abbrev pub with_files : Tree → ℕ → ℕ → List OutFile → Tree
 with_files files table write outs = fold (with_file table write) files outs
-
--- ---- what an entry asks of the files: one that ends a transaction as committed, that its own directories have what is
--- made there then, and no more
-
-pub record IsFiledBy (txn : ℕ) (event : Entry) (state : State) (files : Tree) : Type 0 where
-  pub whole : (place : Place) → IsOwn state.tables txn place → tree.get files place ≡ made_at (after state event).tables place
-  pub encoded : AllByRecursion AreEncoded (after state event).tables
-
-abbrev pub IsFiled : Entry → State → Tree → Type 0
-IsFiled (entry.Commit txn wrote) state files = IsFiledBy txn.0 (entry.Commit txn wrote) state files
-IsFiled (entry.Create txn table) state files = IsFiledBy txn.0 (entry.Create txn table) state files
-IsFiled (entry.Drop txn table) state files = IsFiledBy txn.0 (entry.Drop txn table) state files
-IsFiled _ state files = Unit {0}

@@ -60,23 +60,11 @@ pub record HasSoundWrites (table : Table) : Type 0 where
 abbrev pub HasFewOwners : ℕ → Table → Type 0
 HasFewOwners most table = length table.owners ≤ most
 
--- no id of it was forgotten: so far none is
-abbrev pub KeepsAll : Table → Type 0
-KeepsAll table = table.forgotten ≡ []
-
 -- no partition column is an ARRAY
 abbrev pub HasFlatParts : Table → Type 0
 HasFlatParts table = AreFlat table.info.shape.parts
 
 pub record AreSound (most : ℕ) (tables : List Table) : Type 0 where
-  pub flat : AllByRecursion HasFlatParts tables
-  pub in_order : NumberedFrom 1 tables
-  pub few : AllByRecursion (HasFewOwners most) tables
-  pub keeping : AllByRecursion KeepsAll tables
-  pub written : AllByRecursion HasSoundWrites tables
-
--- the same, whichever ids of theirs were forgotten
-pub record AreSoundTables (most : ℕ) (tables : List Table) : Type 0 where
   pub flat : AllByRecursion HasFlatParts tables
   pub in_order : NumberedFrom 1 tables
   pub few : AllByRecursion (HasFewOwners most) tables
@@ -139,16 +127,9 @@ AreOfCommitted endings table = AllByRecursion (IsOfCommitted endings table.owner
 
 -- ---- states
 
+-- whatever jobs there are, and whichever ids were forgotten (of these: hv_law_jobs, and hv_law_made's `IsSoundBook`)
 pub record IsSound (state : State) : Type 0 where
-  pub no_jobs : state.jobs ≡ []
   pub tables : AreSound state.entries state.tables
-  pub single : AllByRecursion (IsSingle (map info_in state.tables)) state.transactions
-  pub given : AreGiven (map given_of state.transactions) (map owners_of state.tables)
-  pub committed : AllByRecursion (AreOfCommitted (map ending_of state.transactions)) state.tables
-
--- the same of states with jobs, whichever ids were forgotten
-pub record IsSoundBase (state : State) : Type 0 where
-  pub tables : AreSoundTables state.entries state.tables
   pub single : AllByRecursion (IsSingle (map info_in state.tables)) state.transactions
   pub given : AreGiven (map given_of state.transactions) (map owners_of state.tables)
   pub committed : AllByRecursion (AreOfCommitted (map ending_of state.transactions)) state.tables

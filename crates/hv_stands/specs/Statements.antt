@@ -7,7 +7,7 @@ use Rattle.hv_base.specs.declared.ids.TableId.{TableId}
 use Rattle.hv_base.specs.declared.ids.WriteId.{WriteId}
 use Rattle.hv_base.specs.declared.ids.Touch.{Touch}
 use Rattle.hv_shelf.specs.declared.place.Place.{Place}
-use Rattle.hv_shelf.specs.Disk.{Store, Tree}
+use Rattle.hv_shelf.specs.Disk.{Store}
 use Rattle.hv_ast.specs.declared.statement.Stmt.{Stmt}
 use Rattle.hv_built.specs.Running.{Runs}
 use Rattle.hv_logic.specs.declared.catalog.TableInfo.{TableInfo}
@@ -15,7 +15,6 @@ use Rattle.hv_logic.specs.declared.effect.Effect.{Effect}
 use Rattle.hv_logic.specs.declared.meaning.Meaning.TheVariants.{Change}
 use Rattle.hv_typing.specs.Columns.{columns_of}
 use Rattle.hv_history.specs.hv_meaning.specs.Meaning.{meaning_in}
-use Rattle.hv_route.specs.Back.{AreHeld}
 use Rattle.hv_route.specs.Routes.{files_of}
 use Rattle.hv_history.specs.declared.entry.Entry.{Entry}
 use Rattle.hv_history.specs.declared.entry.Entry.TheVariants as entry
@@ -26,10 +25,9 @@ use Rattle.hv_history.specs.State.{state_of, nothing_yet, numbered}
 use Rattle.hv_history.specs.Legal.{Fits, AllFit, profile}
 use Rattle.hv_history.specs.Answers.{committed_text, ok_line, cause_text}
 use Rattle.hv_dirs.specs.Names.{write_end}
-use Rattle.hv_stands.specs.Files.{Stands, with_files}
 use Rattle.hv_stands.specs.Sound.{IsSound}
 use Rattle.hv_stands.specs.Reading.{seen_read}
-use Rattle.hv_stands.specs.Laws.{CanBeFile, HasFile}
+use Rattle.hv_stands.specs.Laws.{CanBeFile}
 use Rattle.hv_stands.specs.Running.{Asking, next_number, opening, starting, meant, snapshot_at, AreNotOf, IsWaiting, IsUnderWay, HasAnswered, IsOfId, HasPut, KeepsGiven}
 
 abbrev pub AllFitting : List Entry → Type 0
@@ -144,60 +142,6 @@ EffectsCanBeWritten =
     → AllByRecursion CanBeFile (files_of info.shape write 0 effect)
 
 -- ---- its files
-
--- An own directory of the next write id is empty. Behind the Given and the files of a change there, just these stand there.
-abbrev pub FilesArePut : Type 0
-FilesArePut =
-    (book : List Entry) (place : ℕ) (said : Stmt) (info : TableInfo) (effect : Effect) (table : Table) (files : Tree)
-    → AllFitting book → length book + 1 < write_end → Stands (state_of book) files
-    → meant (take place book) said ≡ Some (Change info effect)
-    → numbered (state_of book).tables info.table.0 ≡ Some table
-    → AllByRecursion HasFile (files_of info.shape (length table.owners + 1) 0 effect) → AreHeld effect.inserts
-    → HasPut (with_files files info.table.0 (length table.owners + 1) (files_of info.shape (length table.owners + 1) 0 effect))
-    info (length table.owners + 1) effect
-
--- Whatever is put, or broken, in own directories of a write id of an open transaction, the files that the book makes stand.
-abbrev pub PutsStand : Type 0
-PutsStand =
-    (book : List Entry) (asking : Asking) (txn place : ℕ) (said : Stmt) (table write : ℕ) (before now : Tree)
-    → AllFitting book → length book < write_end → IsUnderWay book asking txn place said ((table, write) ∷ [])
-    → ((other : Place) → (IsOfId table write other → ⊥) → tree.get now other ≡ tree.get before other)
-    → Stands (state_of book) before → Stands (state_of book) now
-
--- An entry that fits leaves the files standing, but for a commit of rows: an opening, a start, a write id, an abort; and what
--- ends a statement that was given no write id.
-abbrev pub WritesNothing : ℕ → List (ℕ × ℕ) → Entry → Type 0
-WritesNothing txn given (entry.Commit other wrote) = (other.0 ≡ txn) × (given ≡ [])
-WritesNothing txn given (entry.Create other table) = (other.0 ≡ txn) × (given ≡ [])
-WritesNothing txn given (entry.Drop other table) = (other.0 ≡ txn) × (given ≡ [])
-WritesNothing txn given event = Unit {0}
-
-abbrev pub QuietEntriesStand : Type 0
-QuietEntriesStand =
-    (book : List Entry) (asking : Asking) (txn place : ℕ) (said : Stmt) (given : List (ℕ × ℕ)) (event : Entry) (files : Tree)
-    → AllFitting book → Fits profile (state_of book) event → IsUnderWay book asking txn place said given → WritesNothing txn given event
-    → Stands (state_of book) files → Stands (state_of (book ++ event ∷ [])) files
-
--- the same of entries that end nothing as committed, whoever's they are
-abbrev pub CommitsNothing : Entry → Type 0
-CommitsNothing (entry.Commit txn wrote) = ⊥
-CommitsNothing (entry.Create txn table) = ⊥
-CommitsNothing (entry.Drop txn table) = ⊥
-CommitsNothing event = Unit {0}
-
-abbrev pub OtherEntriesStand : Type 0
-OtherEntriesStand =
-    (book : List Entry) (event : Entry) (files : Tree) → AllFitting book → Fits profile (state_of book) event → CommitsNothing event
-    → Stands (state_of book) files → Stands (state_of (book ++ event ∷ [])) files
-
--- a commit of rows, with its files
-abbrev pub CommitsStand : Type 0
-CommitsStand =
-    (book : List Entry) (asking : Asking) (txn place : ℕ) (said : Stmt) (info : TableInfo) (effect : Effect) (write : ℕ) (wrote : List Touch) (files : Tree)
-    → AllFitting book → length book < write_end → Fits profile (state_of book) (entry.Commit (record { 0 = txn }) wrote)
-    → IsUnderWay book asking txn place said ((info.table.0, write) ∷ []) → meant (take place book) said ≡ Some (Change info effect)
-    → HasPut files info write effect
-    → Stands (state_of book) files → Stands (state_of (book ++ entry.Commit (record { 0 = txn }) wrote ∷ [])) files
 
 -- its files stay while those of write ids that were given stay
 abbrev pub PutFilesStay : Type 0

@@ -1,33 +1,12 @@
 ghost use Rattle.std.specs.Prelude.{◌≡◌, [], ◌∷◌, true, false, None};
 ghost use Rattle.hv_stands.specs.Files.{records_of, commit_file};
 ghost use Rattle.hv_stands.specs.Worked.{shape_by_hand, part_one, part_two, id_by_hand, write_by_hand, record_by_hand, delete_by_hand};
-ghost use Rattle.hv_stands.specs.Laws.{SoundnessGoesOn, StandingGoesOn, PutsAreLoose, FilesAreOfTables, NewIdsHaveNoFile, CommitsHaveFiles};
-ghost use Rattle.hv_stands.specs.Statements.{Opens, Starts, Begins, IdsAreGiven, CommitsAnswer, CreatesAnswer, DropsAnswer, AbortsAnswer, WaitingAbortsAnswer, AnswersStay, OthersLeaveIt, FittingIsSound, FrontsFit, OneMoreFits, FittingHasRoom, SeeingIsEnough, ChangedTableStood, TablesStay, EffectsCanBeWritten, FilesArePut, PutsStand, QuietEntriesStand, OtherEntriesStand, CommitsStand, PutFilesStay, NewIdsAreOthers, EarlierIdsAreKept};
+ghost use Rattle.hv_stands.specs.Laws.{SoundnessGoesOn};
+ghost use Rattle.hv_stands.specs.Statements.{Opens, Starts, Begins, IdsAreGiven, CommitsAnswer, CreatesAnswer, DropsAnswer, AbortsAnswer, WaitingAbortsAnswer, AnswersStay, OthersLeaveIt, FittingIsSound, FrontsFit, OneMoreFits, FittingHasRoom, SeeingIsEnough, ChangedTableStood, TablesStay, EffectsCanBeWritten, PutFilesStay, NewIdsAreOthers, EarlierIdsAreKept};
 
 /// What holds of every state holds behind each entry that fits.
 pub fn soundness_goes_on()
     ensures law { SoundnessGoesOn }
-{}
-
-/// The files stand behind each entry that fits, where one that ends a transaction as committed has its files.
-pub fn standing_goes_on()
-    ensures law { StandingGoesOn }
-{}
-
-/// What is put in an own directory of an open transaction, or broken there, is loose.
-pub fn puts_are_loose()
-    ensures law { PutsAreLoose }
-{}
-
-/// Each file is one of a table that was created; a write id that wasn't given has none.
-pub fn files_are_of_tables()
-    ensures law { FilesAreOfTables }
-    ensures bare { NewIdsHaveNoFile }
-{}
-
-/// Each committed write has its files, as they were written.
-pub fn commits_have_files()
-    ensures law { CommitsHaveFiles }
 {}
 
 /// A statement waits behind its Opened, and is under way behind its Start: its snapshot is of the book there.
@@ -74,13 +53,8 @@ pub fn seeing_is_enough()
     ensures written { EffectsCanBeWritten }
 {}
 
-/// The files of a statement, from its put to its commit, beside those of others.
-pub fn statement_files_stand()
-    ensures put { FilesArePut }
-    ensures puts { PutsStand }
-    ensures quiet { QuietEntriesStand }
-    ensures others { OtherEntriesStand }
-    ensures commits { CommitsStand }
+/// The files of a statement stay while those of write ids that were given stay; files of the next one are of none that was given.
+pub fn statement_files_stay()
     ensures stay { PutFilesStay }
     ensures new { NewIdsAreOthers }
     ensures earlier { EarlierIdsAreKept }

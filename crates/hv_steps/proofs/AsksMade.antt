@@ -1,6 +1,6 @@
 -- What comes of the aborts that a statement asks for: it has asked for all, or it has ended on the way; and what it prepares behind them.
 use Rattle.std.proofs.Common.{◌≡◌, inl, inr, ℕ, Option, Some, List, [], ◌∷◌, Ok, Err, Result, refl, sym, subst, arith}
-use Rattle.std.specs.Prelude.{true, false, IfOk, IfErr}
+use Rattle.std.specs.Prelude.{true, false, IfOk}
 use Rattle.std.specs.List.{AllByRecursion}
 use Rattle.hv_shelf.specs.Disk.{Store}
 use Rattle.hv_logic.specs.declared.meaning.Meaning.{Meaning}
@@ -14,7 +14,6 @@ use Rattle.hv_stands.specs.Running.{IsOf}
 use Rattle.hv_trail.specs.declared.trail.TrailItem.{TrailItem}
 use Rattle.hv_actor.specs.Acting.{AreRows, among, known}
 use Rattle.hv_table_reader.specs.hv_acts.specs.declared.told.ToldHouse.{ToldHouse}
-use Rattle.hv_table_reader.specs.hv_acts.specs.hv_telling.specs.hv_house.specs.Faults.{EndsRun}
 use Rattle.hv_table_reader.specs.hv_acts.specs.hv_telling.specs.hv_house.specs.declared.fault.HouseFault.{HouseFault}
 use Rattle.hv_table_reader.specs.hv_acts.specs.Told.{trail_in}
 use Rattle.hv_table_reader.specs.hv_acts.specs.Meant.{IsNoEnd}
@@ -134,10 +133,6 @@ pub stopped-asked : {D : Type 0} (now : ToldHouse D) (way : Way) (numbers : List
     → IfOk found (HasAsked now way numbers)
 stopped-asked now way numbers (Ok done) found e = subst (λ (r : Result Asked HouseFault). IfOk r (HasAsked now way numbers)) (sym e) tt
 stopped-asked now way numbers (Err why) found e = subst (λ (r : Result Asked HouseFault). IfOk r (HasAsked now way numbers)) (sym e) tt
-
-pub stopped-ends : (result : Result Done HouseFault) (found : Result Asked HouseFault) → found ≡ asks_stopped result → IfErr result EndsRun → IfErr found EndsRun
-stopped-ends (Ok done) found e ends = subst (λ (r : Result Asked HouseFault). IfErr r EndsRun) (sym e) tt
-stopped-ends (Err why) found e ends = subst (λ (r : Result Asked HouseFault). IfErr r EndsRun) (sym e) ends
 
 -- ---- what it prepares behind that
 

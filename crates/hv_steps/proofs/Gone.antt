@@ -125,7 +125,7 @@ module _ {D : Type 0} (told : D → Option Store) (faults : D → ℕ) (between 
       pub failed-adds : AddsOwn faults between txn.0 (known own before) (known own' now) []
       failed-adds = failed-looks.adds
 
-      pub failed-ends : EndsRun of
+      failed-ends : EndsRun of
       failed-ends = find-ends held.house.house.trail.closed of (subst (IsFindWhy held.house.house.trail.closed) of_is end-why)
 
       pub failed-halts : HaltsFor told meanwhile txn.0 now of

@@ -1,68 +1,33 @@
 -- What acts that read leave of a house, and what is seen of a table by then, as it stood at a place of the book.
-use Rattle.std.proofs.Common.{◌≡◌, ℕ, ◌+◌, ◌<◌, ◌≤◌, Bool, true, false, cond, Option, Some, None, List, [], ◌∷◌, ◌++◌, length, take, get_or, refl, sym, ap, ◌∙◌, subst, arith, Ok, Err, Result}
+use Rattle.std.proofs.Common.{◌≡◌, ℕ, ◌+◌, ◌<◌, ◌≤◌, Bool, Option, List, [], ◌∷◌, ◌++◌, length, take, get_or, sym, ap, ◌∙◌, subst, arith, Ok, Err, Result}
 use Rattle.std.specs.Prelude.{IfOk, IfErr, IsErrAnd}
-use Rattle.std.specs.Option.{option_map, option_to_list}
-use Rattle.std.proofs.lemmas.List.{take-append-le, take_more}
-use Rattle.std.proofs.Math.Seq.{take-append_seam}
+use Rattle.std.specs.Option.{option_to_list}
+use Rattle.std.proofs.lemmas.List.{take_more}
 use Rattle.hv_base.specs.declared.ids.TxnId.{TxnId}
 use Rattle.hv_locks.specs.declared.table.Lock.{Lock}
 use Rattle.hv_shelf.specs.Disk.{Store}
-use Rattle.hv_dirs.specs.Names.{write_end}
-use Rattle.hv_logic.specs.declared.effect.Found.{Found}
 use Rattle.hv_logic.specs.declared.seen.Seen.{Seen}
-use Rattle.hv_meaning.specs.Meaning.{info_of}
-use Rattle.hv_history.specs.declared.entry.Entry.{Entry}
 use Rattle.hv_history.specs.declared.state.Table.{Table}
-use Rattle.hv_history.specs.State.{State, state_of, content_of}
-use Rattle.hv_stands.specs.Files.{Stands}
+use Rattle.hv_history.specs.State.{State}
 use Rattle.hv_stands.specs.Reading.{table_of_name}
 use Rattle.hv_stands.specs.Statements.{AllFitting}
-use Rattle.hv_stands.proofs.Fitting.{fronts-fit}
 use Rattle.hv_trail.specs.declared.trail.TrailItem.{TrailItem}
 use Rattle.hv_actor.specs.Acting.{AreRows, among, known}
 use Rattle.hv_table_reader.specs.hv_acts.specs.hv_telling.specs.hv_house.specs.declared.fault.HouseFault.TheVariants as fault
 use Rattle.hv_table_reader.specs.declared.fault.RowFault.{RowFault}
 use Rattle.hv_table_reader.specs.declared.fault.RowFault.TheVariants as row_fault
 use Rattle.hv_table_reader.specs.Damage.{IsShortDamage, IsDamage}
-use Rattle.hv_table_reader.specs.hv_acts.specs.hv_telling.specs.hv_house.specs.Listing.{info_in}
-use Rattle.hv_table_reader.specs.hv_acts.specs.hv_telling.specs.hv_house.specs.Seeing.{SeesRows, IsSeenOf}
 use Rattle.hv_table_reader.specs.hv_acts.specs.hv_telling.specs.Telling.{IsTold, IsToldHouse}
 use Rattle.hv_table_reader.specs.hv_acts.specs.hv_telling.proofs.Told.{house-book}
 use Rattle.hv_table_reader.specs.hv_acts.specs.declared.told.ToldHouse.{ToldHouse}
 use Rattle.hv_table_reader.specs.hv_acts.specs.Told.{IsWholeOrClosed, trail_in, book_in}
 use Rattle.hv_table_reader.specs.hv_acts.specs.Reading.{HasPlace, state_then}
 use Rattle.hv_table_reader.specs.hv_acts.specs.Going.{faults_in, IsOpenHouse, AddsOwn}
-use Rattle.hv_table_reader.proofs.Stood.{rows-content}
 use Rattle.hv_table_reader.specs.Tables.{LeavesSeeing, IsMarkedIn, RisesTo, LooksOver, IsOfHouse, IsSeenIn}
-use Rattle.hv_steps.specs.Seeing.{tables_then, seen_with, IsSeenAs, AreSeenAs, AddsSeen, IsUnseen, Looks, SeesUpTo}
+use Rattle.hv_steps.specs.Seeing.{tables_then, IsSeenAs, AreSeenAs, AddsSeen, IsUnseen, Looks, SeesUpTo}
 use Rattle.hv_table_reader.specs.hv_acts.proofs.Readings.{place-lasts, then-same}
 use Rattle.hv_steps.proofs.Joining.{adds-none, adds-more, adds-front}
 use Rattle.hv_steps.proofs.SeenNames.{seen-none, seen-more}
-
--- ---- of a book whose files stand in a store
-
-rows-by : (b : Bool) (rows content : List Found) → (b ≡ true → rows ≡ content) → (b ≡ false → rows ≡ []) → rows ≡ cond b content []
-rows-by true rows content all none = all refl
-rows-by false rows content all none = none refl
-
-module _ (book : List Entry) (place : ℕ) (store : Store) (reads : Bool) (fit : AllFitting book) (few : length book < write_end)
-    (stands : Stands (state_of book) store.tree) where
-  abbrev then_state : State
-  then_state = state_of (take place book)
-
-  seen-rows : (name : List ℕ) (o : Option Table) (found : Option Seen) → table_of_name name then_state.tables ≡ o → IsSeenOf (Some store) reads then_state o found
-      → found ≡ option_map (seen_with reads) o
-  seen-rows name None found at is = is
-  seen-rows name (Some table) found at is =
-      let sees : SeesRows (Some store) reads then_state table is.0 = is.2 in
-      let rows : is.0 ≡ cond reads (content_of table.writes) [] =
-      rows-by reads is.0 (content_of table.writes) (λ so. rows-content book place store.tree name table is.0 fit few stands at (sees.read so)) sees.none in
-      is.1 ∙ ap (λ (rows : List Found). Some (record { info = table.info; rows = rows })) rows
-
-seen-info : (told : Option Store) (reads : Bool) (s : State) (o : Option Table) (found : Option Seen) → IsSeenOf told reads s o found
-    → option_map info_of found ≡ option_map info_in o
-seen-info told reads s None found is = ap (option_map info_of) is
-seen-info told reads s (Some table) found is = ap (option_map info_of) is.1
 
 -- ---- what is seen of a name, said of another house
 
@@ -89,19 +54,9 @@ module _ {D : Type 0} (told : D → Option Store) where
   pub house-fits : (now : ToldHouse D) → IsWholeOrClosed told now.house → IsOpenHouse now → AllFitting (book_in now)
   house-fits now keeps running = subst AllFitting (sym (house-book now.house)) (keeps.whole running).ready.fit
 
-  seen-now : (now : ToldHouse D) (place : ℕ) (reads : Bool) (name : List ℕ) (found : Option Seen) → AllFitting (book_in now)
-      → IsSeenIn told now place reads name found → IsSeenAs (IsToldHouse told now.house) reads (table_of_name name (tables_then now place)) found
-  seen-now now place reads name found fit sees = record {
-    info = seen-info None reads (state_then (trail_in now) place) (table_of_name name (tables_then now place)) found sees.untold;
-    truly = λ so.
-        let seen = sees.truly so in
-        let front = seen.moment.front in
-        let fits : AllFitting seen.book =
-        subst AllFitting (ap (take (length seen.book)) front.is ∙ take-append_seam seen.book front.more) (fronts-fit (book_in now) (length seen.book) fit) in
-        let same : take place (book_in now) ≡ take place seen.book = ap (take place) front.is ∙ take-append-le place seen.book front.more seen.moment.has in
-        subst (λ (b : List Entry). found ≡ option_map (seen_with reads) (table_of_name name (state_of b).tables)) (sym same)
-        (seen-rows seen.book place seen.store reads fits seen.moment.few seen.moment.faithful.stands name (table_of_name name (state_of (take place seen.book)).tables) found refl seen.seen);
-  }
+  seen-now : (now : ToldHouse D) (place : ℕ) (reads : Bool) (name : List ℕ) (found : Option Seen) → IsSeenIn told now place reads name found
+      → IsSeenAs (IsToldHouse told now.house) reads (table_of_name name (tables_then now place)) found
+  seen-now now place reads name found sees = record { info = sees.info; truly = sees.truly }
 
   module _ (faults : D → ℕ) (B : List TrailItem → Type 0) (rows : AreRows B) where
     -- a place of the book is one of what it grows to, with the same tables
@@ -125,21 +80,18 @@ module _ {D : Type 0} (told : D → Option Store) where
         ap (λ (s : State). s.tables) (then-same (trail_in before) (trail_in now) (adds-front faults B rows own own' before now [] adds) place has)
 
     pub seen-before : {by : ℕ} (own own' : List ℕ) (before now : ToldHouse D) (place : ℕ) (reads : Bool) (name : List ℕ) (found : Option Seen)
-        → AddsOwn faults B by (known own before) (known own' now) [] → HasPlace (trail_in before) place → AllFitting (book_in now)
-        → IsSeenIn told now place reads name found
+        → AddsOwn faults B by (known own before) (known own' now) [] → HasPlace (trail_in before) place → IsSeenIn told now place reads name found
         → IsSeenAs (IsToldHouse told before.house) reads (table_of_name name (tables_then before place)) found
-    seen-before own own' before now place reads name found adds has fit sees =
+    seen-before own own' before now place reads name found adds has sees =
         seen-as (IsToldHouse told now.house) (IsToldHouse told before.house) reads name (tables_then now place) (tables_then before place) found
-        (subst (IsTold told) (sym adds.later.rest.start)) (tables-same own own' before now place adds has) (seen-now now place reads name found fit sees)
+        (subst (IsTold told) (sym adds.later.rest.start)) (tables-same own own' before now place adds has) (seen-now now place reads name found sees)
 
     pub looks-seen : {by : ℕ} (own own' : List ℕ) (before now : ToldHouse D) (place : ℕ) (reads : Bool) (name : List ℕ) (result : Result (Option Seen) RowFault)
-        → AddsOwn faults B by (known own before) (known own' now) [] → HasPlace (trail_in before) place → IsWholeOrClosed told now.house
-        → IfOk result (λ _. IsOpenHouse now)
+        → AddsOwn faults B by (known own before) (known own' now) [] → HasPlace (trail_in before) place
         → IfOk result (IsSeenIn told now place reads name)
         → IfOk result (IsSeenAs (IsToldHouse told before.house) reads (table_of_name name (tables_then before place)))
-    looks-seen own own' before now place reads name (Ok found) adds has keeps running sees =
-        seen-before own own' before now place reads name found adds has (house-fits now keeps running) sees
-    looks-seen own own' before now place reads name (Err why) adds has keeps running sees = tt
+    looks-seen own own' before now place reads name (Ok found) adds has sees = seen-before own own' before now place reads name found adds has sees
+    looks-seen own own' before now place reads name (Err why) adds has sees = tt
 
     -- ---- what acts leave
 

@@ -1,6 +1,6 @@
 -- A statement that is prepared over an actor: it is ready, or it ended on the way.
 use Rattle.std.proofs.Common.{◌≡◌, ◌⊎◌, inl, inr, ℕ, ◌≤◌, ◌<◌, Option, Some, None, List, [], ◌∷◌, ◌++◌, refl, sym, ap, ◌∙◌, subst, append-nil, Ok, Err, Result}
-use Rattle.std.specs.Prelude.{IfOk, IfErr}
+use Rattle.std.specs.Prelude.{IfOk}
 use Rattle.hv_base.specs.declared.ids.TableId.{TableId}
 use Rattle.hv_base.specs.declared.ids.TxnId.{TxnId}
 use Rattle.hv_base.specs.declared.ids.WriteId.{WriteId}
@@ -23,7 +23,6 @@ use Rattle.hv_trail.specs.declared.trail.TrailItem.{TrailItem}
 use Rattle.hv_actor.specs.Acting.{AreRows, among, known}
 use Rattle.hv_table_reader.specs.hv_acts.specs.hv_telling.specs.hv_house.specs.declared.fault.HouseFault.{HouseFault}
 use Rattle.hv_table_reader.specs.hv_acts.specs.hv_telling.specs.hv_house.specs.declared.fault.HouseFault.TheVariants as fault
-use Rattle.hv_table_reader.specs.hv_acts.specs.hv_telling.specs.hv_house.specs.Faults.{EndsRun}
 use Rattle.hv_table_reader.specs.hv_acts.specs.hv_telling.specs.Telling.{IsToldHouse}
 use Rattle.hv_table_reader.specs.hv_acts.specs.declared.told.ToldHouse.{ToldHouse}
 use Rattle.hv_table_reader.specs.hv_acts.specs.declared.fault.ActFault.{ActFault}
@@ -130,10 +129,6 @@ early-or-lacking : (info : TableInfo) (effect : Effect) (txn low high : ℕ) (wh
     → KeepsCount low high (aborting txn why)
 early-or-lacking info effect txn low high why (inl is) = early-counts info effect txn low high why is
 early-or-lacking info effect txn low high why (inr is) = subst (λ (c : Cause). KeepsCount low high (aborting txn c)) (sym is) tt
-
-pub ended-ends : (result : Result Done HouseFault) → IfErr result EndsRun → IfErr (ended result) EndsRun
-ended-ends (Ok found) ends = tt
-ended-ends (Err why) ends = ends
 
 -- ---- parts
 

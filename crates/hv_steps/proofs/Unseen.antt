@@ -1,16 +1,19 @@
 -- A statement whose tables can't be seen is aborted for that.
-use Rattle.std.proofs.Common.{◌≡◌, ◌⊎◌, inl, inr, ℕ, ◌+◌, ◌≤◌, Option, List, [], refl, sym, ◌∙◌, subst, arith, length, Ok, Err, Result}
-use Rattle.std.specs.Prelude.{IsErrAnd}
+use Rattle.std.proofs.Common.{◌≡◌, ◌⊎◌, inl, inr, ℕ, ◌+◌, ◌≤◌, Option, Some, List, [], refl, sym, ◌∙◌, subst, arith, length, Ok, Err, Result}
+use Rattle.std.specs.Prelude.{IsErrAnd, slice_get}
 use Rattle.std.proofs.lemmas.List.{length-append}
 use Rattle.hv_bytes.proofs.Lengths.{length-four, length-eight, length-text}
 use Rattle.hv_shelf.specs.Disk.{Store}
 use Rattle.hv_ast.specs.declared.statement.Stmt.{Stmt}
+use Rattle.hv_locks.specs.declared.table.Lock.{Lock}
+use Rattle.hv_logic.specs.Names.{names_in}
 use Rattle.hv_logic.specs.declared.meaning.Meaning.{Meaning}
 use Rattle.hv_history.specs.declared.entry.Entry.{Entry}
 use Rattle.hv_history.specs.declared.entry.FilePlace.{FilePlace}
 use Rattle.hv_history.specs.declared.entry.Cause.{Cause}
 use Rattle.hv_history.specs.declared.entry.Cause.TheVariants as cause
 use Rattle.hv_history.specs.Spelling.{place_spelling}
+use Rattle.hv_history.specs.Lasting.{IsFront}
 use Rattle.hv_stands.specs.Running.{Asking}
 use Rattle.hv_trail.specs.declared.trail.TrailItem.{TrailItem}
 use Rattle.hv_actor.specs.Acting.{AreRows, among, known}
@@ -21,8 +24,8 @@ use Rattle.hv_table_reader.specs.hv_acts.specs.hv_telling.specs.hv_house.specs.H
 use Rattle.hv_table_reader.specs.hv_acts.specs.hv_telling.specs.Telling.{IsToldHouse}
 use Rattle.hv_table_reader.specs.hv_acts.specs.declared.told.ToldHouse.{ToldHouse}
 use Rattle.hv_table_reader.specs.hv_acts.specs.Going.{faults_in, IsShutBetween, IsShutNow}
-use Rattle.hv_table_reader.specs.hv_acts.specs.Reading.{HasPlace}
-use Rattle.hv_table_reader.specs.hv_acts.proofs.Readings.{place-lasts}
+use Rattle.hv_table_reader.specs.hv_acts.specs.Reading.{HasPlace, HasReader}
+use Rattle.hv_table_reader.specs.hv_acts.proofs.Readings.{place-lasts, reader-lasts, reader-under-way}
 use Rattle.hv_steps.specs.Ending.{aborting}
 use Rattle.hv_steps.specs.declared.ready.Way.{Way}
 use Rattle.hv_table_reader.specs.Tables.{RisesTo}
@@ -33,7 +36,7 @@ use Rattle.hv_steps.specs.declared.reply.Outcome.TheVariants as outcome
 use Rattle.hv_steps.specs.Going.{Goes, WasOnWay}
 use Rattle.hv_steps.specs.Phases.{AbortsFor, IsUntoldDamage, ComesTo, Sees}
 use Rattle.hv_steps.specs.Seeing.{EndsFor, EndsUnseen, Looks}
-use Rattle.hv_steps.proofs.Joining.{adds-none, told-earlier, gains-as, halts-none, goes-on}
+use Rattle.hv_steps.proofs.Joining.{front-more, adds-none, told-earlier, gains-as, halts-none, goes-on}
 
 -- ---- short entries
 
@@ -47,11 +50,18 @@ pub small-damaged : (txn : ℕ) (place : FilePlace) → length place.partition +
 unfolding place_spelling
 small-damaged txn place short = grind (arith, length-append, length-eight, length-four, length-text)
 
--- ---- a statement on its way has its place
+-- ---- a statement on its way has its place, and reads there
 
 pub way-place : (trail : List TrailItem) (asking : Asking) (way : Way) (said : Stmt) → WasOnWay trail asking way said → HasPlace trail way.place
 way-place trail asking way said was =
     place-lasts was.then_ trail was.front way.place (let early = was.was.early in omega (arith, early))
+
+-- and it reads there under each name that it locks
+pub way-reader : (before now : List TrailItem) (asking : Asking) (way : Way) (said : Stmt) (index : ℕ) (lock : Lock) → WasOnWay before asking way said
+    → IsFront before now → slice_get (names_in said) index ≡ Some lock → HasReader now way.txn way.place lock.name
+way-reader before now asking way said index lock was front held =
+    reader-lasts was.then_ now (front-more was.then_ before now was.front front) way.txn way.place lock.name
+    (reader-under-way was.then_ asking way.txn way.place said [] index lock was.was held)
 
 -- ---- the cause, said in another way
 

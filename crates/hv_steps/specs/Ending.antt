@@ -124,7 +124,8 @@ pub record IsWellTouched (given : List (ℕ × ℕ)) (wrote : List Touch) : Type
   pub used : AllByRecursion (λ id. IsTrue (is_touched wrote id)) given
 
 -- these are the touches of a change, and the places are those of all its files under the write id that was given
-pub record IsOfChange (book : List Entry) (given : List (ℕ × ℕ)) (wrote : List Touch) (places : List Place) : Type 0 where
+pub record IsOfChange (book : List Entry) (given : List (ℕ × ℕ)) (wrote : List Touch)
+    (places : List Place) : Type 0 where
   pub info : TableInfo
   pub effect : Effect
   pub can : CanChange book info effect
@@ -134,7 +135,8 @@ pub record IsOfChange (book : List Entry) (given : List (ℕ × ℕ)) (wrote : L
   pub places_are : places ≡ places_of_files info.table.0 write (files_of info.shape write 0 effect)
 
 -- its commit can be noted where it meets no conflict, and all files of what it touches were put
-pub record CommitCanEnd (book : List Entry) (txn : ℕ) (given : List (ℕ × ℕ)) (wrote : List Touch) (places : List Place) : Type 0 where
+pub record CommitCanEnd (book : List Entry) (txn : ℕ) (given : List (ℕ × ℕ)) (wrote : List Touch)
+    (places : List Place) : Type 0 where
   pub small : IsSmall (committing txn wrote)
   pub touched : IsWellTouched given wrote
   pub change : (wrote ≡ []) ⊎ IsOfChange book given wrote places
@@ -151,7 +153,8 @@ EndCanBeNoted book txn given (end.Drop table) = Unit {0}
 -- ---- a statement of which all is done but its end
 
 -- it means this change and has its write id; its files can be read again, and these are their places
-pub record IsChangeReady (meaning : Option Meaning) (given : List (ℕ × ℕ)) (name : List ℕ) (put : List Place) : Type 0 where
+pub record IsChangeReady (meaning : Option Meaning) (given : List (ℕ × ℕ)) (name : List ℕ)
+    (put : List Place) : Type 0 where
   pub info : TableInfo
   pub effect : Effect
   pub write : ℕ
@@ -163,7 +166,8 @@ pub record IsChangeReady (meaning : Option Meaning) (given : List (ℕ × ℕ)) 
   pub places : put ≡ places_of_files info.table.0 write (files_of info.shape write 0 effect)
 
 -- the touches are those that it means, the reply is theirs, and where it has a write id it is ready with that change; without one it touches nothing
-pub record CommitIsReady (meaning : Option Meaning) (given : List (ℕ × ℕ)) (wrote : List Touch) (name : List ℕ) (put : List Place) (text : List ℕ) : Type 0 where
+pub record CommitIsReady (meaning : Option Meaning) (given : List (ℕ × ℕ)) (wrote : List Touch) (name : List ℕ)
+    (put : List Place) (text : List ℕ) : Type 0 where
   pub meant : TouchesAreMeant wrote meaning
   pub reply : text ≡ committed_text meaning wrote
   pub files_are : ((given ≡ []) × (wrote ≡ [])) ⊎ IsChangeReady meaning given name put
@@ -173,7 +177,8 @@ pub record CreateIsReady (meaning : Option Meaning) (given : List (ℕ × ℕ)) 
   pub reply : text ≡ ok_line
   pub none : given ≡ []
 
-pub record DropIsReady (meaning : Option Meaning) (given : List (ℕ × ℕ)) (table : TableId) (text : List ℕ) : Type 0 where
+pub record DropIsReady (meaning : Option Meaning) (given : List (ℕ × ℕ)) (table : TableId)
+    (text : List ℕ) : Type 0 where
   pub drops : meaning ≡ Some (Unmake table)
   pub reply : text ≡ ok_line
   pub none : given ≡ []
@@ -202,7 +207,8 @@ AddsNoneOrId txn added = (added ≡ []) ⊎ ((table : TableId) × (write : Write
 
 abbrev pub AddsAbort : ℕ → List Entry → Type 0
 AddsAbort txn added =
-    (first : List Entry) × (why : Cause) × AddsNoneOrId txn first × EndsUncommitted why × (added ≡ first ++ aborting txn why ∷ [])
+    (first : List Entry) × (why : Cause) × AddsNoneOrId txn first × EndsUncommitted why
+    × (added ≡ first ++ aborting txn why ∷ [])
 
 -- a write id is asked for by a change of rows, in its table
 abbrev pub IsOfRows : TableId → Meaning → Type 0
@@ -251,7 +257,8 @@ pub record Concludes (txn low high : ℕ) (before now : List Entry) : Type 0 whe
   pub ends : IsOneEnd txn added
 
 -- what stands of it then, whatever is told: it is under way, and its end can be noted
-pub record IsReadyToEnd (book : List Entry) (asking : Asking) (txn place : ℕ) (said : Stmt) (ready : Ready) : Type 0 where
+pub record IsReadyToEnd (book : List Entry) (asking : Asking) (txn place : ℕ) (said : Stmt)
+    (ready : Ready) : Type 0 where
   pub given : List (ℕ × ℕ)
   pub under_way : IsUnderWay book asking txn place said given
   pub can : EndCanBeNoted book txn given ready.end
@@ -261,13 +268,15 @@ IsPreparedIn book asking txn place said (prepared.Ready ready) = IsReadyToEnd bo
 IsPreparedIn book asking txn place said (prepared.Ended found) = Unit {0}
 
 -- and as it means: it will end so, or it has ended, by nobody else
-pub record IsTrulyReady (book : List Entry) (asking : Asking) (txn place : ℕ) (said : Stmt) (ready : Ready) : Type 0 where
+pub record IsTrulyReady (book : List Entry) (asking : Asking) (txn place : ℕ) (said : Stmt)
+    (ready : Ready) : Type 0 where
   pub to_end : IsReadyToEnd book asking txn place said ready
   pub truly : EndIsTrue (meant (take place book) said) to_end.given ready.end ready.text
 
 abbrev pub IsTrulyPrepared : List Entry → Asking → ℕ → ℕ → Stmt → Prepared → Type 0
 IsTrulyPrepared book asking txn place said (prepared.Ready ready) = IsTrulyReady book asking txn place said ready
-IsTrulyPrepared book asking txn place said (prepared.Ended (done.Replied reply)) = HasReplied book txn reply.text reply.refused reply.ended
+IsTrulyPrepared book asking txn place said (prepared.Ended (done.Replied reply)) = HasReplied book txn reply.text
+    reply.refused reply.ended
 IsTrulyPrepared book asking txn place said (prepared.Ended (done.Gone reply)) = ⊥
 
 -- ---- where it ended
@@ -285,7 +294,8 @@ EndedNamesLast now (prepared.Ended (done.Gone reply)) = ⊥
 
 -- Its entries so far are legal behind the book, and none ends it. The journal reads to the book, or where the store failed, to the
 -- book or to the book and one entry more of it, which fits behind the book and is no Opened.
-pub record HasStopped {D : Type 0} (told : D → Option Store) (txn : ℕ) (why : HouseFault) (before now : House D) : Type 0 where
+pub record HasStopped {D : Type 0} (told : D → Option Store) (txn : ℕ) (why : HouseFault)
+    (before now : House D) : Type 0 where
   pub added : List Entry
   pub book : entries_of now ≡ entries_of before ++ added
   pub of_it : AreOf txn added

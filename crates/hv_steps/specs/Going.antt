@@ -76,7 +76,8 @@ HasWaited trail asking txn said = WasSo trail (λ book. IsWaiting book asking tx
 -- a statement of this tree opened it: it waited, or was under way
 abbrev pub WasOpened : List TrailItem → ℕ → Type 0
 WasOpened trail txn =
-    (asking : Asking) × (said : Stmt) × (HasWaited trail asking txn said ⊎ ((place : ℕ) × WasSo trail (λ book. IsUnderWay book asking txn place said [])))
+    (asking : Asking) × (said : Stmt) × (HasWaited trail asking txn said
+    ⊎ ((place : ℕ) × WasSo trail (λ book. IsUnderWay book asking txn place said [])))
 
 -- the count that a cause keeps is one by which the store's count rose
 abbrev pub CauseKeeps : ℕ → ℕ → Cause → Type 0

@@ -13,13 +13,15 @@ use Rattle.hv_table_reader.specs.hv_acts.specs.Told.{trail_in}
 use Rattle.hv_steps.specs.Going.{IsOpenHouse, IsGone, IsShutBetween, IsShutNow}
 
 -- the house's call failed: where its store did, others had closed it or this call did
-abbrev pub IsLeftBy : {D : Type 0} → (D → Option Store) → (ToldHouse D → ToldHouse D → Type 0) → ℕ → ToldHouse D → HouseFault → Type 0
+abbrev pub IsLeftBy : {D : Type 0} → (D → Option Store) → (ToldHouse D → ToldHouse D → Type 0) → ℕ → ToldHouse D
+    → HouseFault → Type 0
 IsLeftBy told meanwhile txn now fault.Store = IsShutBetween meanwhile ⊎ IsShutNow told txn now
 IsLeftBy told meanwhile txn now fault.NoMemory = IsOpenHouse now
 IsLeftBy told meanwhile txn now (fault.Failed count) = IsOpenHouse now
 
 -- an act of this transaction was refused
-abbrev pub IsLeftFor : {D : Type 0} → (D → Option Store) → (ToldHouse D → ToldHouse D → Type 0) → ℕ → ToldHouse D → ActFault → Type 0
+abbrev pub IsLeftFor : {D : Type 0} → (D → Option Store) → (ToldHouse D → ToldHouse D → Type 0) → ℕ → ToldHouse D
+    → ActFault → Type 0
 IsLeftFor told meanwhile txn now (act.Ended at) = IsOpenHouse now × IsGone (trail_in now) txn at
 IsLeftFor told meanwhile txn now (act.Full entries) = IsOpenHouse now
 IsLeftFor told meanwhile txn now (act.Held by) = IsOpenHouse now
@@ -27,7 +29,8 @@ IsLeftFor told meanwhile txn now (act.Broken put count) = IsOpenHouse now
 IsLeftFor told meanwhile txn now act.Unfit = IsOpenHouse now
 IsLeftFor told meanwhile txn now (act.House why) = IsLeftBy told meanwhile txn now why
 
-abbrev pub IsLeft : {D T : Type 0} → (D → Option Store) → (ToldHouse D → ToldHouse D → Type 0) → ℕ → ToldHouse D → Result T ActFault → Type 0
+abbrev pub IsLeft : {D T : Type 0} → (D → Option Store) → (ToldHouse D → ToldHouse D → Type 0) → ℕ → ToldHouse D
+    → Result T ActFault → Type 0
 IsLeft told meanwhile txn now (Ok x) = IsOpenHouse now
 IsLeft told meanwhile txn now (Err why) = IsLeftFor told meanwhile txn now why
 

@@ -64,13 +64,15 @@ use Rattle.hv_actor.specs.Acting.{Setting, Moment}
 -- ---- an end
 
 -- it ended by an entry of this kind, behind these; or others have ended it, and it added just these
-abbrev pub EndsBehind : {D : Type 0} → ℕ → ToldHouse D → List Entry → (Entry → Reply → Type 0) → Done → List Entry → Type 0
+abbrev pub EndsBehind : {D : Type 0} → ℕ → ToldHouse D → List Entry → (Entry → Reply → Type 0) → Done → List Entry
+    → Type 0
 EndsBehind txn now first Is (done.Replied reply) added =
     (last : Entry) × (added ≡ first ++ last ∷ []) × Is last reply × HasEndedAt (book_in now) txn reply.ended
 EndsBehind txn now first Is (done.Gone reply) added = (added ≡ first) × IsGoneSo (trail_in now) txn reply
 
 -- an abort for this cause or, where memory lacked for that, for want of memory; the reply is its line, and its transaction's answer
-pub record IsAbortFor {D : Type 0} (txn : ℕ) (now : ToldHouse D) (Causes : Cause → Type 0) (last : Entry) (reply : Reply) : Type 0 where
+pub record IsAbortFor {D : Type 0} (txn : ℕ) (now : ToldHouse D) (Causes : Cause → Type 0) (last : Entry)
+    (reply : Reply) : Type 0 where
   pub why : Cause
   pub is : Causes why ⊎ (why ≡ cause.Memory)
   pub entry_is : last ≡ aborting txn why
@@ -114,7 +116,8 @@ pub record IsStoppedAt (txn : ℕ) (why : Cause) (reply : Reply) (trail : List T
 
 -- It could not begin, and was opened to be told so. This stood in its way where it was to start; or memory lacked to say that, or others had
 -- started it.
-pub record NeverStarts {D : Type 0} (before now : ToldHouse D) (txn : ℕ) (said : Stmt) (last : Entry) (reply : Reply) : Type 0 where
+pub record NeverStarts {D : Type 0} (before now : ToldHouse D) (txn : ℕ) (said : Stmt) (last : Entry)
+    (reply : Reply) : Type 0 where
   pub why : Cause
   pub entry_is : last ≡ aborting txn why
   pub stopped : WasSoBetween before now (IsStoppedAt txn why reply) ⊎ (why ≡ cause.Memory)
@@ -123,7 +126,8 @@ pub record NeverStarts {D : Type 0} (before now : ToldHouse D) (txn : ℕ) (said
 
 -- It started: where nothing stood in its way its Opened and its Start stand one behind the other; else it was opened, and started in a hold of
 -- its own.
-pub record HasBegun {D : Type 0} (before now : ToldHouse D) (asking : Asking) (said : Stmt) (way : Way) (added : List Entry) : Type 0 where
+pub record HasBegun {D : Type 0} (before now : ToldHouse D) (asking : Asking) (said : Stmt) (way : Way)
+    (added : List Entry) : Type 0 where
   pub event : Entry
   pub was_opened : WasSoBetween before now (OpensAt asking way.txn.0 event)
   pub added_is : added ≡ event ∷ starting way.txn.0 ∷ []
@@ -132,7 +136,8 @@ pub record HasBegun {D : Type 0} (before now : ToldHouse D) (asking : Asking) (s
   pub under_way : WasOnWay (trail_in now) asking way said
 
 -- it was opened and has ended: before its Start
-pub record HasNotBegun {D : Type 0} (before now : ToldHouse D) (asking : Asking) (said : Stmt) (found : Done) (added : List Entry) : Type 0 where
+pub record HasNotBegun {D : Type 0} (before now : ToldHouse D) (asking : Asking) (said : Stmt) (found : Done)
+    (added : List Entry) : Type 0 where
   pub runs : Runs asking.text said
   pub txn : ℕ
   pub event : Entry
@@ -169,7 +174,8 @@ pub record IsShutOpening {D : Type 0} (told : D → Option Store) (asking : Aski
 -- the first of these entries, where there is one, is the Opened of this statement
 abbrev pub BegunBy : Asking → List Entry → Type 0
 BegunBy asking [] = Unit {0}
-BegunBy asking (entry.Opened txn session number text ∷ more) = (session ≡ asking.session) × (number ≡ asking.number) × (text ≡ asking.text)
+BegunBy asking (entry.Opened txn session number text ∷ more) = (session ≡ asking.session) × (number ≡ asking.number)
+    × (text ≡ asking.text)
 BegunBy asking (event ∷ more) = ⊥
 
 -- it stops, and what was added begins with its Opened
@@ -195,14 +201,16 @@ HaltsBeginning setting asking before now why =
 -- ---- what it comes to
 
 -- what it means can be ended in a book that goes on from there; in a told house it means this over the tables at its snapshot
-pub record ComesTo {D : Type 0} (told : D → Option Store) (now : ToldHouse D) (way : Way) (said : Stmt) (meaning : Meaning) : Type 0 where
+pub record ComesTo {D : Type 0} (told : D → Option Store) (now : ToldHouse D) (way : Way) (said : Stmt)
+    (meaning : Meaning) : Type 0 where
   pub can : CanEnd (book_in now) meaning
   pub truly : IsToldHouse told now.house → meant (take way.place (book_in now)) said ≡ Some meaning
 
 -- ---- what it has prepared
 
 -- its files were put under a write id, and these are the touches and the places of its change
-pub record IsChangeReady (info : TableInfo) (effect : Effect) (write : ℕ) (put : List Place) (ready : Ready) : Type 0 where
+pub record IsChangeReady (info : TableInfo) (effect : Effect) (write : ℕ) (put : List Place)
+    (ready : Ready) : Type 0 where
   pub end_is : ready.end ≡ end.Commit (touches_of info effect) info.shape.name put
   pub places : put ≡ places_of_files info.table.0 write (files_of info.shape write 0 effect)
   pub text_is : ready.text ≡ counts_line (touches_of info effect)
@@ -238,13 +246,15 @@ IsWriteFault (cause.WriteFault count) = Unit {0}
 IsWriteFault why = ⊥
 
 abbrev pub GivesId : ℕ → Meaning → List Entry → Type 0
-GivesId txn (Change info effect) first = (write : WriteId) × (0 < changes_in effect) × (first ≡ giving txn info.table write ∷ [])
+GivesId txn (Change info effect) first = (write : WriteId) × (0 < changes_in effect)
+    × (first ≡ giving txn info.table write ∷ [])
 GivesId txn meaning first = ⊥
 
 abbrev pub Prepares : {D : Type 0} → ℕ → ToldHouse D → Meaning → Prepared → List Entry → Type 0
 Prepares txn now meaning (prepared.Ready ready) added = PreparesTo txn meaning ready added
 Prepares txn now meaning (prepared.Ended found) added =
-    AbortsFor txn now [] (EndsEarlyFor meaning) found added ⊎ ((first : List Entry) × GivesId txn meaning first × AbortsFor txn now first IsWriteFault found added)
+    AbortsFor txn now [] (EndsEarlyFor meaning) found added
+    ⊎ ((first : List Entry) × GivesId txn meaning first × AbortsFor txn now first IsWriteFault found added)
 
 abbrev pub NoCause : Cause → Type 0
 NoCause why = ⊥
@@ -252,14 +262,17 @@ NoCause why = ⊥
 -- it has asked for all that it asks for; or it has ended on the way
 abbrev pub Asks : {D : Type 0} → ℕ → ToldHouse D → (Entry → Type 0) → Asked → List Entry → Type 0
 Asks txn now IsAsk asked.All added = AllByRecursion IsAsk added
-Asks txn now IsAsk (asked.Ended found) added = (first : List Entry) × AllByRecursion IsAsk first × AbortsFor txn now first NoCause found added
+Asks txn now IsAsk (asked.Ended found) added = (first : List Entry) × AllByRecursion IsAsk first
+    × AbortsFor txn now first NoCause found added
 
 -- it has asked for all, and prepares what it means behind that; or it has ended before. None that comes to something else asks for any.
 abbrev pub PreparesAsked : {D : Type 0} → ℕ → ToldHouse D → (Entry → Type 0) → Meaning → Prepared → List Entry → Type 0
 PreparesAsked txn now IsAsk meaning found added =
-    ((first : List Entry) × (more : List Entry) × (added ≡ first ++ more) × AllByRecursion IsAsk first × Prepares txn now meaning found more
+    ((first : List Entry) × (more : List Entry) × (added ≡ first ++ more) × AllByRecursion IsAsk first
+    × Prepares txn now meaning found more
     × ((first ≡ []) ⊎ (meaning ≡ Plain)))
-    ⊎ ((ended : Done) × (found ≡ prepared.Ended ended) × Asks txn now IsAsk (asked.Ended ended) added × (meaning ≡ Plain))
+    ⊎ ((ended : Done) × (found ≡ prepared.Ended ended) × Asks txn now IsAsk (asked.Ended ended) added
+    × (meaning ≡ Plain))
 
 -- ---- its end
 
@@ -275,8 +288,10 @@ abbrev pub CanConclude : {D : Type 0} → (D → Option Store) → ToldHouse D �
 CanConclude told now way (end.Commit wrote name put) text =
     IsSmall (committing way.txn.0 wrote) × CanBePut (trail_in now) way.txn wrote put
     × (IsToldHouse told now.house → IsDueSo (trail_in now) way.txn wrote name put text)
-CanConclude told now way end.Create text = (IsToldHouse told now.house → IsMakeMeant (trail_in now) way.txn) × (text ≡ ok_line)
-CanConclude told now way (end.Drop table) text = (IsToldHouse told now.house → IsDropMeant (trail_in now) way.txn table) × (text ≡ ok_line)
+CanConclude told now way end.Create text = (IsToldHouse told now.house → IsMakeMeant (trail_in now) way.txn)
+    × (text ≡ ok_line)
+CanConclude told now way (end.Drop table) text = (IsToldHouse told now.house → IsDropMeant (trail_in now) way.txn table)
+    × (text ≡ ok_line)
 
 abbrev pub CanConcludeIn : {D : Type 0} → (D → Option Store) → ToldHouse D → Way → Prepared → Type 0
 CanConcludeIn told now way (prepared.Ready ready) = CanConclude told now way ready.end ready.text
@@ -308,7 +323,8 @@ pub record EndsInConflict (txn : ℕ) (ready : Ready) (last : Entry) (reply : Re
 
 -- by what it was ready for; for a conflict; or for want of memory
 abbrev pub ConcludesSo : {D : Type 0} → ℕ → ToldHouse D → Ready → Entry → Reply → Type 0
-ConcludesSo txn now ready last reply = EndsReady txn ready last reply ⊎ EndsInConflict txn ready last reply ⊎ IsAbortFor txn now NoCause last reply
+ConcludesSo txn now ready last reply = EndsReady txn ready last reply ⊎ EndsInConflict txn ready last reply
+    ⊎ IsAbortFor txn now NoCause last reply
 
 -- in a told house the reply is its transaction's answer, unless others have ended it
 abbrev pub AnswersTruly : {D : Type 0} → ℕ → ToldHouse D → Done → Type 0

@@ -74,13 +74,15 @@ EndsFor txn now Causes (prepared.Ended found) added = AbortsFor txn now [] Cause
 
 -- it is ready to end so, and nothing was done to the house; or memory lacked
 abbrev pub MakesReady : {D : Type 0} → ℕ → ToldHouse D → ToldHouse D → End → List ℕ → Prepared → List Entry → Type 0
-MakesReady txn before now last text (prepared.Ready ready) added = (added ≡ []) × IsReadyAs ready last text × (now ≡ before)
+MakesReady txn before now last text (prepared.Ready ready) added = (added ≡ []) × IsReadyAs ready last text
+    × (now ≡ before)
 MakesReady txn before now last text (prepared.Ended found) added = AbortsFor txn now [] NoCause found added
 
 -- ---- a change of rows
 
 -- it is under way without a write id, and its change can be ended; in a told house it means that change
-pub record ComesToChange {D : Type 0} (told : D → Option Store) (now : ToldHouse D) (way : Way) (info : TableInfo) (effect : Effect) : Type 0 where
+pub record ComesToChange {D : Type 0} (told : D → Option Store) (now : ToldHouse D) (way : Way) (info : TableInfo)
+    (effect : Effect) : Type 0 where
   pub asking : Asking
   pub said : Stmt
   pub was : WasOnWay (trail_in now) asking way said
@@ -111,7 +113,8 @@ failed_count (act.House fault.NoMemory) = None
 failed_count (act.House (fault.Failed count)) = Some count
 
 -- a call on files has failed: it has its mark, and keeps a count by which the store's rose above `low`
-pub record HasFailed {D : Type 0} (faults : D → ℕ) (low : ℕ) (txn : TxnId) (now : ToldHouse D) (count : ℕ) : Type 0 where
+pub record HasFailed {D : Type 0} (faults : D → ℕ) (low : ℕ) (txn : TxnId) (now : ToldHouse D)
+    (count : ℕ) : Type 0 where
   pub marked : HasItsMark (trail_in now) txn (cause.WriteFault count)
   pub above : low < count
   pub upto : count ≤ faults_in faults now
@@ -121,7 +124,8 @@ FileFailed faults low txn now (act.House (fault.Failed count)) = HasFailed fault
 FileFailed faults low txn now why = Unit {0}
 
 -- others have ended it; or the run stops; or the house is open
-pub record IsRefusal {D : Type 0} (told : D → Option Store) (faults : D → ℕ) (meanwhile : ToldHouse D → ToldHouse D → Type 0) (low : ℕ) (txn : TxnId)
+pub record IsRefusal {D : Type 0} (told : D → Option Store) (faults : D → ℕ)
+    (meanwhile : ToldHouse D → ToldHouse D → Type 0) (low : ℕ) (txn : TxnId)
     (now : ToldHouse D) (why : ActFault) : Type 0 where
   pub left : IsLeftFor told meanwhile txn.0 now why
   pub file : FileFailed faults low txn now why
@@ -135,7 +139,8 @@ given_entries txn table (Ok (given.Aborted aborted)) = aborting txn aborted.caus
 given_entries txn table (Err why) = []
 
 -- it was given this write id, which can be of a directory, in the table of its change; and in a told house it means that change with just that id
-pub record HasItsId {D : Type 0} (told : D → Option Store) (now : ToldHouse D) (txn : TxnId) (info : TableInfo) (effect : Effect) (write : ℕ) : Type 0 where
+pub record HasItsId {D : Type 0} (told : D → Option Store) (now : ToldHouse D) (txn : TxnId) (info : TableInfo)
+    (effect : Effect) (write : ℕ) : Type 0 where
   pub first : 1 ≤ write
   pub last : write < write_end
   pub here : IsSomeAnd (numbered (state_at (trail_in now)).tables info.table.0) (λ (table : Table). table.info ≡ info)
@@ -152,7 +157,8 @@ IsGivenSo told now txn info effect (given.Aborted aborted) =
 -- ---- its files
 
 -- the file is one that may be put at this place under a write id of the transaction, and in a told house one that it means
-pub record IsFileDue {D : Type 0} (told : D → Option Store) (now : ToldHouse D) (txn : TxnId) (place : Place) (file : OutFile) : Type 0 where
+pub record IsFileDue {D : Type 0} (told : D → Option Store) (now : ToldHouse D) (txn : TxnId) (place : Place)
+    (file : OutFile) : Type 0 where
   pub table : ℕ
   pub write : ℕ
   pub given : Has (trail_in now) txn.0 (IsGiven table write)
@@ -160,9 +166,11 @@ pub record IsFileDue {D : Type 0} (told : D → Option Store) (now : ToldHouse D
   pub means : IsToldHouse told now.house → IsFileMeant (trail_in now) txn place file
 
 -- so of each of these, at its place
-pub record AreFilesDue {D : Type 0} (told : D → Option Store) (now : ToldHouse D) (txn : TxnId) (table write : ℕ) (files : List OutFile) : Type 0 where
+pub record AreFilesDue {D : Type 0} (told : D → Option Store) (now : ToldHouse D) (txn : TxnId) (table write : ℕ)
+    (files : List OutFile) : Type 0 where
   pub given : Has (trail_in now) txn.0 (IsGiven table write)
-  pub mean : IsToldHouse told now.house → AllByRecursion (λ file. IsFileMeant (trail_in now) txn (place_of_file table write file) file) files
+  pub mean : IsToldHouse told now.house → AllByRecursion
+      (λ file. IsFileMeant (trail_in now) txn (place_of_file table write file) file) files
 
 -- the first so many of these files were put, at these places
 pub record ArePutUpTo (table write : ℕ) (files : List OutFile) (places : List Place) : Type 0 where
@@ -177,5 +185,6 @@ pub record IsChangePut (info : TableInfo) (effect : Effect) (write : ℕ) (put :
 
 -- it is ready with its change; or it ended for a fault of its files
 abbrev pub Writes : {D : Type 0} → ℕ → ToldHouse D → TableInfo → Effect → ℕ → Prepared → List Entry → Type 0
-Writes txn now info effect write (prepared.Ready ready) added = (added ≡ []) × ((put : List Place) × IsChangeReady info effect write put ready)
+Writes txn now info effect write (prepared.Ready ready) added = (added ≡ [])
+    × ((put : List Place) × IsChangeReady info effect write put ready)
 Writes txn now info effect write (prepared.Ended found) added = AbortsFor txn now [] IsWriteFault found added

@@ -1,5 +1,5 @@
 -- What a started statement sees of the tables that it names, each as it stood at its snapshot, at whatever moment it was looked at.
-use Rattle.std.specs.Prelude.{◌≡◌, ◌⊎◌, ℕ, ◌<◌, ◌≤◌, Bool, if◌then◌else◌, Option, List, [], ◌∷◌, ◌++◌, length, map, Result, IfOk, IfErr}
+use Rattle.std.specs.Prelude.{◌≡◌, ◌⊎◌, ℕ, ◌≤◌, Bool, Option, List, [], ◌++◌, length, map, Result, IfOk, IfErr}
 use Rattle.std.specs.List.{flat_map}
 use Rattle.std.specs.Option.{option_map, option_to_list}
 use Rattle.hv_base.specs.declared.ids.TxnId.{TxnId}
@@ -17,7 +17,6 @@ use Rattle.hv_history.specs.declared.entry.Entry.{Entry}
 use Rattle.hv_history.specs.declared.entry.Cause.{Cause}
 use Rattle.hv_history.specs.declared.entry.Cause.TheVariants as cause
 use Rattle.hv_history.specs.declared.state.Table.{Table}
-use Rattle.hv_history.specs.State.{content_of}
 use Rattle.hv_stands.specs.Reading.{table_of_name, named_in}
 use Rattle.hv_trail.specs.declared.trail.TrailItem.{TrailItem}
 use Rattle.hv_table_reader.specs.hv_acts.specs.hv_telling.specs.hv_house.specs.declared.fault.HouseFault.TheVariants as fault
@@ -34,6 +33,7 @@ use Rattle.hv_steps.specs.declared.reply.Outcome.{Outcome}
 use Rattle.hv_steps.specs.declared.reply.Outcome.TheVariants as outcome
 use Rattle.hv_table_reader.specs.hv_acts.specs.Going.{faults_in, IsOpenHouse, IsShutBetween, IsShutNow, AddsOwn}
 use Rattle.hv_table_reader.specs.Tables.{RisesTo}
+pub use Rattle.hv_table_reader.specs.Tables.{seen_with}
 use Rattle.hv_steps.specs.Phases.{AbortsFor, IsUntoldDamage}
 use Rattle.hv_actor.specs.Acting.{Setting, Moment}
 
@@ -43,17 +43,14 @@ use Rattle.hv_actor.specs.Acting.{Setting, Moment}
 abbrev pub tables_then : {D : Type 0} → ToldHouse D → ℕ → List Table
 tables_then now place = (state_then (trail_in now) place).tables
 
--- a table with the rows that stood in it, where they are read
-abbrev pub seen_with : Bool → Table → Seen
-seen_with reads table = record { info = table.info; rows = if reads then content_of table.writes else [] }
-
 -- its description is the table's; where the house is told, so are its rows
 pub record IsSeenAs (is_told : Type 0) (reads : Bool) (table : Option Table) (found : Option Seen) : Type 0 where
   pub info : option_map info_of found ≡ option_map info_in table
   pub truly : is_told → found ≡ option_map (seen_with reads) table
 
 -- of these names each one's table, where there is one
-pub record AreSeenAs (is_told : Type 0) (reads : Bool) (tables : List Table) (locks : List Lock) (seen : List Seen) : Type 0 where
+pub record AreSeenAs (is_told : Type 0) (reads : Bool) (tables : List Table) (locks : List Lock)
+    (seen : List Seen) : Type 0 where
   pub infos : map info_of seen ≡ map info_in (flat_map (named_in tables) locks)
   pub truly : is_told → seen ≡ map (seen_with reads) (flat_map (named_in tables) locks)
 
@@ -62,25 +59,29 @@ abbrev pub AreSeenOfSome : Type 0 → Bool → List Table → List Seen → Type
 AreSeenOfSome is_told reads tables seen = (locks : List Lock) × AreSeenAs is_told reads tables locks seen
 
 -- one name more
-pub record AddsSeen (is_told : Type 0) (reads : Bool) (tables : List Table) (name : List ℕ) (before now : List Seen) : Type 0 where
+pub record AddsSeen (is_told : Type 0) (reads : Bool) (tables : List Table) (name : List ℕ)
+    (before now : List Seen) : Type 0 where
   pub first : Option Seen
   pub sees : IsSeenAs is_told reads (table_of_name name tables) first
   pub now_is : now ≡ before ++ option_to_list first
 
 -- of all that a statement names
 abbrev pub IsSeen : {D : Type 0} → (D → Option Store) → ToldHouse D → ℕ → Stmt → List Seen → Type 0
-IsSeen told now place said seen = AreSeenAs (IsToldHouse told now.house) (reads_rows said) (tables_then now place) (names_in said) seen
+IsSeen told now place said seen = AreSeenAs (IsToldHouse told now.house) (reads_rows said) (tables_then now place)
+    (names_in said) seen
 
 -- ---- what reading leaves
 
 -- A table can't be seen: others have closed the house, or its journal failed; a read failed, which has its mark; memory lacks; or a file is
 -- damaged, of a house that isn't told.
-abbrev pub IsUnseen : {D : Type 0} → (D → Option Store) → (ToldHouse D → ToldHouse D → Type 0) → TxnId → ToldHouse D → RowFault → Type 0
+abbrev pub IsUnseen : {D : Type 0} → (D → Option Store) → (ToldHouse D → ToldHouse D → Type 0) → TxnId → ToldHouse D
+    → RowFault → Type 0
 IsUnseen told meanwhile by now (row_fault.Damaged place) =
     IsOpenHouse now × IsShortDamage (row_fault.Damaged place) × (IsToldHouse told now.house → ⊥)
 IsUnseen told meanwhile by now (row_fault.House fault.Store) = IsShutBetween meanwhile ⊎ IsShutNow told by.0 now
 IsUnseen told meanwhile by now (row_fault.House fault.NoMemory) = IsOpenHouse now
-IsUnseen told meanwhile by now (row_fault.House (fault.Failed count)) = IsOpenHouse now × HasItsMark (trail_in now) by (cause.ReadFault count)
+IsUnseen told meanwhile by now (row_fault.House (fault.Failed count)) = IsOpenHouse now
+    × HasItsMark (trail_in now) by (cause.ReadFault count)
 
 -- all that is promised of what reads: nothing is noted
 pub record Looks {D T : Type 0} (setting : Setting D (ToldHouse D)) (by : TxnId) (before now : Moment (ToldHouse D))

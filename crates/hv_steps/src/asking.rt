@@ -2,7 +2,6 @@
 
 ghost use Rattle.std.specs.Prelude.{◌≡◌, Some, IfOk, IfErr};
 ghost use Rattle.hv_history.specs.Asking.{numbers_in};
-ghost use Rattle.hv_table_reader.specs.hv_acts.specs.hv_telling.specs.hv_house.specs.Faults.{EndsRun};
 ghost use Rattle.hv_table_reader.specs.hv_acts.specs.Told.{trail_in};
 ghost use Rattle.hv_table_reader.specs.hv_acts.specs.Passing.{HasPassed, AllPassed};
 ghost use Rattle.hv_table_reader.specs.hv_acts.specs.Reading.{HasPlace};
@@ -102,9 +101,9 @@ fn ask_listed<D: Shelf + Drop, W: Actor<D, ToldHouse<D>>>(
     ensures keeps { W.keeps actor.new }
     ensures goes { Goes (among D.told D.faults W.between W.meanwhile) (faults_in D.faults (W.house actor.old)) way.txn.0
         (known (W.own actor.old) (W.house actor.old)) (known (W.own actor.new) (W.house actor.new))
-        (Asks way.txn.0 (W.house actor.new) (IsAskOf (trail_in (W.house actor.new)) way.txn.0 way.place numbers.now)) result }
+        (Asks way.txn.0 (W.house actor.new) (IsAskOf (trail_in (W.house actor.new)) way.txn.0 way.place numbers.now))
+        result }
     ensures asked { IfOk result (HasAsked (W.house actor.new) way numbers.now) }
-    ensures ends { IfErr result EndsRun }
 {
     match ask_each(alloc, actor, way, numbers) {
         Ok(()) => Ok(Asked::All),
@@ -141,7 +140,6 @@ pub fn ask<D: Shelf + Drop, W: Actor<D, ToldHouse<D>>>(
         (known (W.own actor.old) (W.house actor.old)) (known (W.own actor.new) (W.house actor.new))
         (Asks way.txn.0 (W.house actor.new) (IsAskIn (W.house actor.new) way tree.now)) result }
     ensures asked { IfOk result (HasAsked (W.house actor.new) way (numbers_in (Some tree.now))) }
-    ensures ends { IfErr result EndsRun }
 {
     ask_listed(alloc, actor, way, listed_in(tree))
 }

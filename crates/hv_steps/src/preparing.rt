@@ -9,7 +9,6 @@ ghost use Rattle.hv_table_rows.specs.Putting.{CanPut};
 ghost use Rattle.hv_history.specs.Answers.{counts_line};
 ghost use Rattle.hv_stands.specs.Laws.{changes_in};
 ghost use Rattle.hv_stands.specs.Running.{Asking, meant};
-ghost use Rattle.hv_table_reader.specs.hv_acts.specs.hv_telling.specs.hv_house.specs.Faults.{EndsRun};
 ghost use Rattle.hv_table_reader.specs.hv_acts.specs.hv_telling.specs.hv_house.specs.House.{IsSmall};
 ghost use Rattle.hv_table_reader.specs.hv_acts.specs.hv_telling.specs.Telling.{IsToldHouse};
 ghost use Rattle.hv_table_reader.specs.hv_acts.specs.Told.{trail_in, book_in};
@@ -74,11 +73,11 @@ fn withdraw<D: Shelf + Drop, W: Actor<D, ToldHouse<D>>>(
     requires uncommitted { EndsUncommitted cause }
     requires was { WasOpened (trail_in (W.house actor.old)) txn.0 }
     ensures keeps { W.keeps actor.new }
-    ensures goes { (low : ℕ) → low ≤ faults_in D.faults (W.house actor.old) → CauseKeeps low (faults_in D.faults (W.house actor.old)) cause
+    ensures goes { (low : ℕ) → low ≤ faults_in D.faults (W.house actor.old)
+        → CauseKeeps low (faults_in D.faults (W.house actor.old)) cause
         → Goes (among D.told D.faults W.between W.meanwhile) low txn.0 (known (W.own actor.old) (W.house actor.old))
         (known (W.own actor.new) (W.house actor.new))
         (EndsFor txn.0 (W.house actor.new) (λ why. why ≡ cause)) result }
-    ensures ends { IfErr result EndsRun }
 {
     ended(refuse(alloc, actor, txn, cause))
 }
@@ -99,7 +98,6 @@ fn made_ready<D: Shelf + Drop, W: Actor<D, ToldHouse<D>>>(
         → Goes (among D.told D.faults W.between W.meanwhile) (faults_in D.faults (W.house actor.old)) txn.0
         (known (W.own actor.old) (W.house actor.old)) (known (W.own actor.new) (W.house actor.new))
         (MakesReady txn.0 (W.house actor.old) (W.house actor.new) end wanted) result }
-    ensures ends { IfErr result EndsRun }
 {
     match text {
         Ok(text) => Ok(Prepared::Ready(Ready {
@@ -201,7 +199,6 @@ fn break_off<D: Shelf + Drop, W: Actor<D, ToldHouse<D>>>(
         → Goes (among D.told D.faults W.between W.meanwhile) low txn.0 (known (W.own actor.old) (W.house actor.old))
         (known (W.own actor.new) (W.house actor.new))
         (EndsFor txn.0 (W.house actor.new) (IsFaultOf why)) result }
-    ensures ends { IfErr result EndsRun }
 {
     match failed_count(why) {
         Some(count) => withdraw(alloc, actor, txn, Cause::WriteFault { count }),
@@ -240,7 +237,6 @@ fn put_rows<D: Shelf + Drop, W: Actor<D, ToldHouse<D>>>(
         (known (W.own actor.old) (W.house actor.old)) (known (W.own actor.new) (W.house actor.new))
         (Writes way.txn.0 (W.house actor.new) change.info change.effect write.0) result }
     ensures can { IfOk result (CanConcludeIn D.told (W.house actor.new) way) }
-    ensures ends { IfErr result EndsRun }
 {
     let RowChange {
         info,
@@ -272,7 +268,6 @@ fn change_rows<D: Shelf + Drop, W: Actor<D, ToldHouse<D>>>(
         (known (W.own actor.old) (W.house actor.old)) (known (W.own actor.new) (W.house actor.new))
         (Prepares way.txn.0 (W.house actor.new) (Change change.info change.effect)) result }
     ensures can { IfOk result (CanConcludeIn D.told (W.house actor.new) way) }
-    ensures ends { IfErr result EndsRun }
 {
     match take_id(alloc, actor, way, &change.info, &change.effect) {
         Ok(Given::Id(write)) => put_rows(alloc, actor, way, change, write),
@@ -300,7 +295,6 @@ fn prepare_rows<D: Shelf + Drop, W: Actor<D, ToldHouse<D>>>(
         (known (W.own actor.old) (W.house actor.old)) (known (W.own actor.new) (W.house actor.new))
         (Prepares way.txn.0 (W.house actor.new) (Change info effect)) result }
     ensures can { IfOk result (CanConcludeIn D.told (W.house actor.new) way) }
-    ensures ends { IfErr result EndsRun }
 {
     match counts_line(alloc, wrote.as_slice()) {
         Ok(text) => {
@@ -334,7 +328,6 @@ fn prepare_change<D: Shelf + Drop, W: Actor<D, ToldHouse<D>>>(
         (known (W.own actor.old) (W.house actor.old)) (known (W.own actor.new) (W.house actor.new))
         (Prepares way.txn.0 (W.house actor.new) (Change info effect)) result }
     ensures can { IfOk result (CanConcludeIn D.told (W.house actor.new) way) }
-    ensures ends { IfErr result EndsRun }
 {
     if changes_rows(&effect) {
         prepare_rows(alloc, actor, way, info, effect, wrote)
@@ -363,13 +356,13 @@ pub fn prepare<D: Shelf + Drop, W: Actor<D, ToldHouse<D>>>(
     requires keeps { W.keeps actor.old }
     requires running { IsOpenHouse (W.house actor.old) }
     requires was { (asking : Asking) × (said : Stmt) × WasOnWay (trail_in (W.house actor.old)) asking way said
-        × ComesTo D.told (W.house actor.old) way said meaning × HasAskedAll (trail_in (W.house actor.old)) way.txn way.place said meaning }
+        × ComesTo D.told (W.house actor.old) way said meaning
+        × HasAskedAll (trail_in (W.house actor.old)) way.txn way.place said meaning }
     ensures keeps { W.keeps actor.new }
     ensures goes { Goes (among D.told D.faults W.between W.meanwhile) (faults_in D.faults (W.house actor.old)) way.txn.0
         (known (W.own actor.old) (W.house actor.old)) (known (W.own actor.new) (W.house actor.new))
         (Prepares way.txn.0 (W.house actor.new) meaning) result }
     ensures can { IfOk result (CanConcludeIn D.told (W.house actor.new) way) }
-    ensures ends { IfErr result EndsRun }
 {
     let txn = way.txn;
     let Touching {

@@ -65,7 +65,8 @@ fn put_file<D: Shelf + Drop, W: Actor<D, ToldHouse<D>>>(
         (known (W.own actor.new) (W.house actor.new)) [] }
     ensures running { IfOk result (λ _. IsOpenHouse (W.house actor.new)) }
     ensures encoded { IfOk result (λ _. HasFile file.now) }
-    ensures refusal { IfErr result (IsRefusal D.told D.faults W.meanwhile (faults_in D.faults (W.house actor.old)) txn (W.house actor.new)) }
+    ensures refusal { IfErr result (IsRefusal D.told D.faults W.meanwhile (faults_in D.faults (W.house actor.old)) txn
+        (W.house actor.new)) }
 {
     actor.hold(
         alloc,
@@ -98,7 +99,8 @@ fn put_one<D: Shelf + Drop, W: Actor<D, ToldHouse<D>>>(
     ensures running { IfOk result (λ _. IsOpenHouse (W.house actor.new)) }
     ensures place { IfOk result (λ place. place ≡ place_of_file table.0 write.0 file.now) }
     ensures encoded { IfOk result (λ _. HasFile file.now) }
-    ensures refusal { IfErr result (IsRefusal D.told D.faults W.meanwhile (faults_in D.faults (W.house actor.old)) txn (W.house actor.new)) }
+    ensures refusal { IfErr result (IsRefusal D.told D.faults W.meanwhile (faults_in D.faults (W.house actor.old)) txn
+        (W.house actor.new)) }
 {
     match places_of(alloc, table, write, file) {
         Ok((place, copy)) => with_place(copy, put_file(alloc, actor, txn, place, file)),
@@ -134,9 +136,11 @@ fn put_next<D: Shelf + Drop, W: Actor<D, ToldHouse<D>>>(
     ensures adds { AddsOwn D.faults W.between txn.0 (known (W.own actor.old) (W.house actor.old))
         (known (W.own actor.new) (W.house actor.new)) [] }
     ensures running { IfOk result (λ _. IsOpenHouse (W.house actor.new)) }
-    ensures places { IfOk result (λ _. places.new.items ≡ places.old.items ++ place_of_file table.0 write.0 file.now ∷ []) }
+    ensures places { IfOk result (λ _. places.new.items ≡ places.old.items ++ place_of_file table.0 write.0
+        file.now ∷ []) }
     ensures encoded { IfOk result (λ _. HasFile file.now) }
-    ensures refusal { IfErr result (IsRefusal D.told D.faults W.meanwhile (faults_in D.faults (W.house actor.old)) txn (W.house actor.new)) }
+    ensures refusal { IfErr result (IsRefusal D.told D.faults W.meanwhile (faults_in D.faults (W.house actor.old)) txn
+        (W.house actor.new)) }
 {
     match put_one(alloc, actor, txn, table, write, file) {
         Ok(place) => match keep(places, place) {
@@ -168,7 +172,8 @@ fn put_each<D: Shelf + Drop, W: Actor<D, ToldHouse<D>>>(
     ensures running { IfOk result (λ _. IsOpenHouse (W.house actor.new)) }
     ensures places { IfOk result (λ places. places.items ≡ places_of_files table.0 write.0 files.now) }
     ensures encoded { IfOk result (λ _. AllByRecursion HasFile files.now) }
-    ensures refusal { IfErr result (IsRefusal D.told D.faults W.meanwhile (faults_in D.faults (W.house actor.old)) txn (W.house actor.new)) }
+    ensures refusal { IfErr result (IsRefusal D.told D.faults W.meanwhile (faults_in D.faults (W.house actor.old)) txn
+        (W.house actor.new)) }
 {
     let mut places = Vec::new(alloc);
     for file in files {
@@ -200,7 +205,8 @@ fn put_files<D: Shelf + Drop, W: Actor<D, ToldHouse<D>>>(
     ensures running { IfOk result (λ _. IsOpenHouse (W.house actor.new)) }
     ensures places { IfOk result (λ put. put ≡ places_of_files table.0 write.0 files.now) }
     ensures encoded { IfOk result (λ _. AllByRecursion HasFile files.now) }
-    ensures refusal { IfErr result (IsRefusal D.told D.faults W.meanwhile (faults_in D.faults (W.house actor.old)) txn (W.house actor.new)) }
+    ensures refusal { IfErr result (IsRefusal D.told D.faults W.meanwhile (faults_in D.faults (W.house actor.old)) txn
+        (W.house actor.new)) }
 {
     match put_each(alloc, actor, txn, table, write, files) {
         Ok(places) => Ok(List::from_vec(places)),
@@ -226,7 +232,8 @@ pub fn put<D: Shelf + Drop, W: Actor<D, ToldHouse<D>>>(
         (known (W.own actor.new) (W.house actor.new)) [] }
     ensures running { IfOk result (λ _. IsOpenHouse (W.house actor.new)) }
     ensures put { IfOk result (IsChangePut info.now effect write.0) }
-    ensures refusal { IfErr result (IsRefusal D.told D.faults W.meanwhile (faults_in D.faults (W.house actor.old)) txn (W.house actor.new)) }
+    ensures refusal { IfErr result (IsRefusal D.told D.faults W.meanwhile (faults_in D.faults (W.house actor.old)) txn
+        (W.house actor.new)) }
 {
     match route(alloc, &info.shape, write, 0, effect) {
         Ok(files) => put_files(alloc, actor, txn, info.table, write, &files),

@@ -54,7 +54,8 @@ fn abort<D: Shelf + Drop, W: Actor<D, ToldHouse<D>>>(
     ensures adds { AddsOwn D.faults W.between txn.0 (known (W.own actor.old) (W.house actor.old))
         (known (W.own actor.new) (W.house actor.new))
         (added_by (λ (at : ℕ). aborting txn.0 cause) result) }
-    ensures replied { IfOk result (λ at. HasReplied (book_in (W.house actor.new)) txn.0 (cause_text None cause) true (Some at)) }
+    ensures replied { IfOk result (λ at. HasReplied (book_in (W.house actor.new)) txn.0 (cause_text None cause) true
+        (Some at)) }
     ensures left { IsLeft D.told W.meanwhile txn.0 (W.house actor.new) result }
     ensures why { IfErr result (IsWhy NoTest (trail_in (W.house actor.new)) txn
         (EntryFits (trail_in (W.house actor.new)) (aborting txn.0 cause))) }
@@ -78,7 +79,6 @@ fn unaborted<D: Shelf + Drop, W: Actor<D, ToldHouse<D>>>(
     ensures goes { (low : ℕ) → Goes (among D.told D.faults W.between W.meanwhile) low txn.0
         (known (W.own actor.old) (W.house actor.old)) (known (W.own actor.new) (W.house actor.new))
         (AbortsFor txn.0 (W.house actor.new) [] NoCause) result }
-    ensures ends { IfErr result EndsRun }
 {
     match why {
         ActFault::Ended { at } => tell_gone(alloc, actor, txn, at),
@@ -103,7 +103,6 @@ fn lack_with<D: Shelf + Drop, W: Actor<D, ToldHouse<D>>>(
     ensures goes { (low : ℕ) → Goes (among D.told D.faults W.between W.meanwhile) low txn.0
         (known (W.own actor.old) (W.house actor.old)) (known (W.own actor.new) (W.house actor.new))
         (AbortsFor txn.0 (W.house actor.new) [] NoCause) result }
-    ensures ends { IfErr result EndsRun }
 {
     match abort(alloc, actor, txn, Cause::Memory) {
         Ok(at) => Ok(aborted(text, at)),
@@ -127,7 +126,6 @@ pub fn lack_memory<D: Shelf + Drop, W: Actor<D, ToldHouse<D>>>(
     ensures goes { (low : ℕ) → Goes (among D.told D.faults W.between W.meanwhile) low txn.0
         (known (W.own actor.old) (W.house actor.old)) (known (W.own actor.new) (W.house actor.new))
         (AbortsFor txn.0 (W.house actor.new) [] NoCause) result }
-    ensures ends { IfErr result EndsRun }
 {
     match cause_text(alloc, &None, &Cause::Memory) {
         Ok(text) => lack_with(alloc, actor, txn, text),
@@ -150,7 +148,6 @@ fn end_failed<D: Shelf + Drop, W: Actor<D, ToldHouse<D>>>(
     ensures goes { (low : ℕ) → Goes (among D.told D.faults W.between W.meanwhile) low txn.0
         (known (W.own actor.old) (W.house actor.old)) (known (W.own actor.new) (W.house actor.new))
         (AbortsFor txn.0 (W.house actor.new) [] NoCause) result }
-    ensures ends { IfErr result EndsRun }
 {
     match fault {
         HouseFault::NoMemory => lack_memory(alloc, actor, txn),
@@ -178,7 +175,6 @@ pub fn end_without<D: Shelf + Drop, W: Actor<D, ToldHouse<D>>>(
     ensures goes { (low : ℕ) → Goes (among D.told D.faults W.between W.meanwhile) low txn.0
         (known (W.own actor.old) (W.house actor.old)) (known (W.own actor.new) (W.house actor.new))
         (AbortsFor txn.0 (W.house actor.new) [] NoCause) result }
-    ensures ends { IfErr result EndsRun }
 {
     match why {
         ActFault::Ended { at } => tell_gone(alloc, actor, txn, at),
@@ -205,11 +201,11 @@ fn refuse_with<D: Shelf + Drop, W: Actor<D, ToldHouse<D>>>(
     requires was { WasOpened (trail_in (W.house actor.old)) txn.0 }
     requires text { text.items ≡ cause_text None cause }
     ensures keeps { W.keeps actor.new }
-    ensures goes { (low : ℕ) → low ≤ faults_in D.faults (W.house actor.old) → CauseKeeps low (faults_in D.faults (W.house actor.old)) cause
+    ensures goes { (low : ℕ) → low ≤ faults_in D.faults (W.house actor.old)
+        → CauseKeeps low (faults_in D.faults (W.house actor.old)) cause
         → Goes (among D.told D.faults W.between W.meanwhile) low txn.0 (known (W.own actor.old) (W.house actor.old))
         (known (W.own actor.new) (W.house actor.new))
         (AbortsFor txn.0 (W.house actor.new) [] (λ why. why ≡ cause)) result }
-    ensures ends { IfErr result EndsRun }
 {
     match abort(alloc, actor, txn, cause) {
         Ok(at) => Ok(aborted(text, at)),
@@ -236,11 +232,11 @@ pub fn refuse<D: Shelf + Drop, W: Actor<D, ToldHouse<D>>>(
     requires uncommitted { EndsUncommitted cause }
     requires was { WasOpened (trail_in (W.house actor.old)) txn.0 }
     ensures keeps { W.keeps actor.new }
-    ensures goes { (low : ℕ) → low ≤ faults_in D.faults (W.house actor.old) → CauseKeeps low (faults_in D.faults (W.house actor.old)) cause
+    ensures goes { (low : ℕ) → low ≤ faults_in D.faults (W.house actor.old)
+        → CauseKeeps low (faults_in D.faults (W.house actor.old)) cause
         → Goes (among D.told D.faults W.between W.meanwhile) low txn.0 (known (W.own actor.old) (W.house actor.old))
         (known (W.own actor.new) (W.house actor.new))
         (AbortsFor txn.0 (W.house actor.new) [] (λ why. why ≡ cause)) result }
-    ensures ends { IfErr result EndsRun }
 {
     match cause_text(alloc, &None, &cause) {
         Ok(text) => refuse_with(alloc, actor, txn, cause, text),

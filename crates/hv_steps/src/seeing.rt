@@ -1,6 +1,6 @@
 //! What a started statement sees, and what it comes to.
 
-ghost use Rattle.std.specs.Prelude.{◌≡◌, ◌≤◌, ◌<◌, ℕ, ◌++◌, ◌∷◌, [], Some, IfOk, OnOk, IfErr, IsSome, length, take, true};
+ghost use Rattle.std.specs.Prelude.{◌≡◌, ◌≤◌, ◌<◌, ℕ, ◌++◌, ◌∷◌, [], Some, IfOk, OnOk, IsSome, length, take, true};
 ghost use Rattle.hv_base.specs.declared.ids.TxnId.{TxnId};
 ghost use Rattle.hv_ast.specs.declared.statement.Stmt.{Stmt};
 ghost use Rattle.hv_built.specs.Built.{IsBuilt};
@@ -13,7 +13,6 @@ ghost use Rattle.hv_history.specs.Shown.{filled, is_plain, listed_for, show_of};
 ghost use Rattle.hv_history.specs.declared.entry.Cause.TheVariants.{ReadFault};
 ghost use Rattle.hv_stands.specs.Running.{Asking};
 ghost use Rattle.hv_stands.specs.Reading.{table_of_name};
-ghost use Rattle.hv_table_reader.specs.hv_acts.specs.hv_telling.specs.hv_house.specs.Faults.{EndsRun};
 ghost use Rattle.hv_table_reader.specs.hv_acts.specs.hv_telling.specs.hv_house.specs.House.{IsSmall};
 ghost use Rattle.hv_table_reader.specs.hv_acts.specs.hv_telling.specs.hv_house.specs.declared.fault.HouseFault.TheVariants as fault;
 ghost use Rattle.hv_table_reader.specs.declared.fault.RowFault.TheVariants as row_fault;
@@ -21,7 +20,7 @@ ghost use Rattle.hv_table_reader.specs.hv_acts.specs.hv_telling.specs.Telling.{I
 ghost use Rattle.hv_table_reader.specs.hv_acts.specs.Told.{trail_in};
 ghost use Rattle.hv_table_reader.specs.hv_acts.specs.Answers.{HasItsMark};
 ghost use Rattle.hv_table_reader.specs.hv_acts.specs.Meant.{IsAbortDue};
-ghost use Rattle.hv_table_reader.specs.hv_acts.specs.Reading.{HasPlace, state_then};
+ghost use Rattle.hv_table_reader.specs.hv_acts.specs.Reading.{HasPlace, HasReader, state_then};
 ghost use Rattle.hv_steps.specs.Ending.{aborting, EndsUncommitted};
 ghost use Rattle.hv_table_reader.specs.Tables.{RisesTo};
 ghost use Rattle.hv_steps.specs.Going.{IsOpenHouse, faults_in, Goes, WasOnWay, WasOpened, CauseKeeps};
@@ -86,7 +85,7 @@ fn seen_before(alloc: Global, name: &Text, seen: &[Seen]) -> Result<Option<Seen>
     }
 }
 
-/// The table of a name, as it stood at a place of the book, for a transaction.
+/// The table of a name that a transaction locks, as it stood at the place of its snapshot.
 fn look_now<D: Shelf + Drop, W: Actor<D, ToldHouse<D>>>(
     alloc: Global,
     actor: &mut W,
@@ -97,7 +96,7 @@ fn look_now<D: Shelf + Drop, W: Actor<D, ToldHouse<D>>>(
 ) -> Result<Option<Seen>, RowFault>
     requires keeps { W.keeps actor.old }
     requires running { IsOpenHouse (W.house actor.old) }
-    requires place { HasPlace (trail_in (W.house actor.old)) place }
+    requires reader { HasReader (trail_in (W.house actor.old)) by place name.now }
     ensures keeps { W.keeps actor.new }
     ensures looks { Looks (among D.told D.faults W.between W.meanwhile) by
         (known (W.own actor.old) (W.house actor.old)) (known (W.own actor.new) (W.house actor.new)) result }
@@ -107,8 +106,8 @@ fn look_now<D: Shelf + Drop, W: Actor<D, ToldHouse<D>>>(
     see_table(alloc, actor, by, place, name, reads)
 }
 
-/// The table of a name, as it stood at a place of the book, for a transaction. Where it was seen for an earlier name
-/// its rows are copied, and no file is read again.
+/// The table of a name that a transaction locks, as it stood at the place of its snapshot. Where it was seen for an earlier name its rows are
+/// copied, and no file is read again.
 fn look<D: Shelf + Drop, W: Actor<D, ToldHouse<D>>>(
     alloc: Global,
     actor: &mut W,
@@ -120,8 +119,9 @@ fn look<D: Shelf + Drop, W: Actor<D, ToldHouse<D>>>(
 ) -> Result<Option<Seen>, RowFault>
     requires keeps { W.keeps actor.old }
     requires running { IsOpenHouse (W.house actor.old) }
-    requires place { HasPlace (trail_in (W.house actor.old)) place }
-    requires seen { AreSeenOfSome (IsToldHouse D.told (W.house actor.old).house) reads (tables_then (W.house actor.old) place) seen.now }
+    requires reader { HasReader (trail_in (W.house actor.old)) by place name.now }
+    requires seen { AreSeenOfSome (IsToldHouse D.told (W.house actor.old).house) reads
+        (tables_then (W.house actor.old) place) seen.now }
     ensures keeps { W.keeps actor.new }
     ensures looks { Looks (among D.told D.faults W.between W.meanwhile) by
         (known (W.own actor.old) (W.house actor.old)) (known (W.own actor.new) (W.house actor.new)) result }
@@ -135,7 +135,7 @@ fn look<D: Shelf + Drop, W: Actor<D, ToldHouse<D>>>(
     }
 }
 
-/// Looks at the table of one more name, as it stood at a place of the book, for a transaction.
+/// Looks at the table of one more name that a transaction locks, as it stood at the place of its snapshot.
 fn see_next<D: Shelf + Drop, W: Actor<D, ToldHouse<D>>>(
     alloc: Global,
     actor: &mut W,
@@ -147,12 +147,14 @@ fn see_next<D: Shelf + Drop, W: Actor<D, ToldHouse<D>>>(
 ) -> Result<(), RowFault>
     requires keeps { W.keeps actor.old }
     requires running { IsOpenHouse (W.house actor.old) }
-    requires place { HasPlace (trail_in (W.house actor.old)) place }
-    requires seen { AreSeenOfSome (IsToldHouse D.told (W.house actor.old).house) reads (tables_then (W.house actor.old) place) seen.old.items }
+    requires reader { HasReader (trail_in (W.house actor.old)) by place name.now }
+    requires seen { AreSeenOfSome (IsToldHouse D.told (W.house actor.old).house) reads
+        (tables_then (W.house actor.old) place) seen.old.items }
     ensures keeps { W.keeps actor.new }
     ensures looks { Looks (among D.told D.faults W.between W.meanwhile) by
         (known (W.own actor.old) (W.house actor.old)) (known (W.own actor.new) (W.house actor.new)) result }
-    ensures seen { OnOk result (AddsSeen (IsToldHouse D.told (W.house actor.old).house) reads (tables_then (W.house actor.old) place)
+    ensures seen { OnOk result (AddsSeen (IsToldHouse D.told (W.house actor.old).house) reads
+        (tables_then (W.house actor.old) place)
         name.now seen.old.items seen.new.items) }
 {
     if let Some(table) = look(alloc, actor, by, place, name, reads, seen)? {
@@ -161,7 +163,7 @@ fn see_next<D: Shelf + Drop, W: Actor<D, ToldHouse<D>>>(
     Ok(())
 }
 
-/// The tables that a statement names, as they stood at a place of the book, each with its rows where the statement reads rows.
+/// The tables that a statement names, as they stood at its Start, each with its rows where the statement reads rows.
 /// A table's files are read once, however often it is named.
 fn seen<D: Shelf + Drop, W: Actor<D, ToldHouse<D>>>(
     alloc: Global,
@@ -171,7 +173,7 @@ fn seen<D: Shelf + Drop, W: Actor<D, ToldHouse<D>>>(
 ) -> Result<Vec<Seen>, RowFault>
     requires keeps { W.keeps actor.old }
     requires running { IsOpenHouse (W.house actor.old) }
-    requires place { HasPlace (trail_in (W.house actor.old)) way.place }
+    requires was { (asking : Asking) × WasOnWay (trail_in (W.house actor.old)) asking way tree.now }
     ensures keeps { W.keeps actor.new }
     ensures looks { Looks (among D.told D.faults W.between W.meanwhile) way.txn
         (known (W.own actor.old) (W.house actor.old)) (known (W.own actor.new) (W.house actor.new)) result }
@@ -316,7 +318,7 @@ fn see_meaning<D: Shelf + Drop, W: Actor<D, ToldHouse<D>>>(
 ) -> Result<Touching, RowFault>
     requires keeps { W.keeps actor.old }
     requires running { IsOpenHouse (W.house actor.old) }
-    requires place { HasPlace (trail_in (W.house actor.old)) way.place }
+    requires was { (asking : Asking) × WasOnWay (trail_in (W.house actor.old)) asking way tree.now }
     requires built { IsBuilt tree.now }
     ensures keeps { W.keeps actor.new }
     ensures looks { Looks (among D.told D.faults W.between W.meanwhile) way.txn
@@ -344,11 +346,11 @@ fn cut_off<D: Shelf + Drop, W: Actor<D, ToldHouse<D>>>(
     requires uncommitted { EndsUncommitted cause }
     requires was { WasOpened (trail_in (W.house actor.old)) txn.0 }
     ensures keeps { W.keeps actor.new }
-    ensures goes { (low : ℕ) → low ≤ faults_in D.faults (W.house actor.old) → CauseKeeps low (faults_in D.faults (W.house actor.old)) cause
+    ensures goes { (low : ℕ) → low ≤ faults_in D.faults (W.house actor.old)
+        → CauseKeeps low (faults_in D.faults (W.house actor.old)) cause
         → Goes (among D.told D.faults W.between W.meanwhile) low txn.0 (known (W.own actor.old) (W.house actor.old))
         (known (W.own actor.new) (W.house actor.new))
         (EndsFor txn.0 (W.house actor.new) cause) result }
-    ensures ends { IfErr result EndsRun }
 {
     Ok(Outcome::Ended(refuse(alloc, actor, txn, cause)?))
 }
@@ -369,7 +371,6 @@ fn end_halted<D: Shelf + Drop, W: Actor<D, ToldHouse<D>>>(
         → Goes (among D.told D.faults W.between W.meanwhile) low txn.0 (known (W.own actor.old) (W.house actor.old))
         (known (W.own actor.new) (W.house actor.new))
         (EndsUnseen D.told (W.house actor.new) txn.0) result }
-    ensures ends { IfErr result EndsRun }
 {
     match fault {
         HouseFault::Failed { count } => cut_off(alloc, actor, txn, Cause::ReadFault { count }),
@@ -389,11 +390,11 @@ fn end_unseen<D: Shelf + Drop, W: Actor<D, ToldHouse<D>>>(
     requires unseen { IsUnseen D.told W.meanwhile txn (W.house actor.old) fault }
     requires was { WasOpened (trail_in (W.house actor.old)) txn.0 }
     ensures keeps { W.keeps actor.new }
-    ensures goes { (low : ℕ) → low ≤ faults_in D.faults (W.house actor.old) → RisesTo low (faults_in D.faults (W.house actor.old)) fault
+    ensures goes { (low : ℕ) → low ≤ faults_in D.faults (W.house actor.old)
+        → RisesTo low (faults_in D.faults (W.house actor.old)) fault
         → Goes (among D.told D.faults W.between W.meanwhile) low txn.0 (known (W.own actor.old) (W.house actor.old))
         (known (W.own actor.new) (W.house actor.new))
         (EndsUnseen D.told (W.house actor.new) txn.0) result }
-    ensures ends { IfErr result EndsRun }
 {
     match fault {
         RowFault::Damaged(place) => cut_off(alloc, actor, txn, Cause::Damaged { place }),
@@ -418,7 +419,6 @@ pub fn see<D: Shelf + Drop, W: Actor<D, ToldHouse<D>>>(
     ensures goes { Goes (among D.told D.faults W.between W.meanwhile) (faults_in D.faults (W.house actor.old)) way.txn.0
         (known (W.own actor.old) (W.house actor.old)) (known (W.own actor.new) (W.house actor.new))
         (Sees D.told (W.house actor.new) way tree.now) result }
-    ensures ends { IfErr result EndsRun }
 {
     match see_meaning(alloc, actor, way, tree) {
         Ok(meaning) => Ok(Outcome::Means(meaning)),

@@ -2,7 +2,6 @@
 
 ghost use Rattle.std.specs.Prelude.{◌≡◌, ℕ, Some, [], IfOk, IfErr};
 ghost use Rattle.std.specs.Option.{option_map};
-ghost use Rattle.hv_table_reader.specs.hv_acts.specs.hv_telling.specs.hv_house.specs.Faults.{EndsRun};
 ghost use Rattle.hv_table_reader.specs.hv_acts.specs.declared.fault.ActFault.TheVariants as act_fault;
 ghost use Rattle.hv_table_reader.specs.hv_acts.specs.Told.{trail_in};
 ghost use Rattle.hv_table_reader.specs.hv_acts.specs.Going.{AddsOwn, HaltsFor, IsOpenHouse};
@@ -73,7 +72,6 @@ pub fn tell_end<D: Shelf + Drop, W: Actor<D, ToldHouse<D>>>(
     ensures running { IfOk result (λ _. IsOpenHouse (W.house actor.new)) }
     ensures halts { IfErr result (HaltsFor D.told W.meanwhile txn.0 (W.house actor.new)) }
     ensures says { IfOk result (SaysEnd (trail_in (W.house actor.new)) txn.0) }
-    ensures ends { IfErr result EndsRun }
 {
     match actor.hold(alloc, TellEnd { txn }) {
         Ok(told) => Ok(end_replied(told)),
@@ -109,7 +107,6 @@ pub fn tell_gone<D: Shelf + Drop, W: Actor<D, ToldHouse<D>>>(
     ensures goes { (low : ℕ) → Goes (among D.told D.faults W.between W.meanwhile) low txn.0
         (known (W.own actor.old) (W.house actor.old)) (known (W.own actor.new) (W.house actor.new))
         (AbortsFor txn.0 (W.house actor.new) [] NoCause) result }
-    ensures ends { IfErr result EndsRun }
 {
     match tell_end(alloc, actor, txn) {
         Ok(said) => Ok(Done::Gone(gone_reply(said))),

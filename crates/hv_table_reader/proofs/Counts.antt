@@ -24,7 +24,7 @@ use Rattle.hv_table_reader.specs.declared.fault.RowFault.TheVariants as fault
 use Rattle.hv_table_reader.specs.Damage.{IsDamage}
 use Rattle.hv_acts.specs.hv_telling.specs.hv_house.specs.Listing.{AreTaken}
 use Rattle.hv_acts.specs.Counting.{AreAsMany}
-use Rattle.hv_table_reader.specs.Counting.{counted_at, counted_in, CountsUpTo, TellsUncounted, HasKindCounts, IsKindUncounted, TellsKind, IsAmissOf}
+use Rattle.hv_table_reader.specs.Counting.{counted_at, counted_in, CountsUpTo, TellsUncounted, HasKindCounts, IsKindUncounted, AreOwnBeside, TellsKind, IsAmissOf}
 use Rattle.hv_table_reader.proofs.Sheets.{reads-none, reads-next, spoiled-told}
 
 -- ---- what was counted
@@ -62,10 +62,11 @@ are-counted deletes files taken counts reads = record {
 
 -- ---- the files of a kind
 
-pub kind-counted : (o : Option Store) (deletes : Bool) (taken : List DirFile) (counts : List Counted) (dues : List Due) → CountsUpTo o deletes taken counts
-    → ((sheets : List Sheet) → AreCounted deletes taken counts sheets → AreOwn taken → IsCounted deletes dues sheets) → Tells o (λ s. HasKindCounts deletes s.tree taken dues)
-kind-counted None deletes taken counts dues done all = tt
-kind-counted (Some s) deletes taken counts dues done all =
+pub kind-counted : (o : Option Store) (deletes : Bool) (taken beside : List DirFile) (counts : List Counted) (dues : List Due) → CountsUpTo o deletes taken counts
+    → ((sheets : List Sheet) → AreCounted deletes taken counts sheets → AreOwn taken → AreOwn beside → IsCounted deletes dues sheets)
+    → Tells o (λ s. HasKindCounts deletes s.tree taken beside dues)
+kind-counted None deletes taken beside counts dues done all = tt
+kind-counted (Some s) deletes taken beside counts dues done all =
     let reads = done.reads in
     record {
       sheets = reads.sheets;
@@ -74,14 +75,20 @@ kind-counted (Some s) deletes taken counts dues done all =
       counted = all reads.sheets (are-counted deletes s.tree taken counts reads);
     }
 
-pub kind-told : (o : Option Store) (deletes : Bool) (table : ℕ) (taken : List DirFile) (counts : List Counted) (dues : List Due) (why : RowFault) → CountsUpTo o deletes taken counts
-    → ((sheets : List Sheet) → AreCounted deletes taken counts sheets → TellsUncounted deletes table dues sheets why) → Tells o (λ s. TellsKind deletes table s.tree taken dues why)
-kind-told None deletes table taken counts dues why done all = tt
-kind-told (Some s) deletes table taken counts dues (fault.Damaged told) done all =
+pub kind-told : (o : Option Store) (deletes : Bool) (table : ℕ) (taken beside : List DirFile) (counts : List Counted) (dues : List Due) (why : RowFault)
+    → CountsUpTo o deletes taken counts
+    → ((sheets : List Sheet) → AreCounted deletes taken counts sheets → TellsUncounted deletes table dues sheets why) → AreOwnBeside beside why
+    → Tells o (λ s. TellsKind deletes table s.tree taken beside dues why)
+kind-told None deletes table taken beside counts dues why done all own = tt
+kind-told (Some s) deletes table taken beside counts dues (fault.Damaged told) done all own =
     let reads = done.reads in
     let is = all reads.sheets (are-counted deletes s.tree taken counts reads) in
-    inr (record { sheets = reads.sheets; files_are = reads.files_are; each = reads.each; place = is.0; place_is = is.1; miscounted = is.2 })
-kind-told (Some s) deletes table taken counts dues (fault.House why) done all = tt
+    inr (record { sheets = reads.sheets; files_are = reads.files_are; each = reads.each; own = own; place = is.0; place_is = is.1; miscounted = is.2 })
+kind-told (Some s) deletes table taken beside counts dues (fault.House why) done all own = tt
+
+pub own-beside : (beside : List DirFile) (why : RowFault) → AreOwn beside → AreOwnBeside beside why
+own-beside beside (fault.Damaged told) own = own
+own-beside beside (fault.House why) own = tt
 
 -- what is passed up
 pub err-up : {T : Type 0} (P : RowFault → Type 0) (result : Result T RowFault) (why : RowFault) → IsErrAnd result (λ w. w ≡ why) → P why → IfErr result P
@@ -104,17 +111,24 @@ module _ (info : TableInfo) (list : WriteIds) (inserts deletes : List DirFile) w
   of_kind true = deletes
   of_kind false = inserts
 
-  are-sheets : (kind : Bool) (files : Tree) (sheets : List Sheet) → AreTaken info.table list files inserts deletes → map sheet_file sheets ≡ of_kind kind
+  abbrev are-sheets : (kind : Bool) (files : Tree) (sheets : List Sheet) → AreTaken info.table list files inserts deletes → map sheet_file sheets ≡ of_kind kind
       → Rattle.std.specs.List.AllByRecursion (Rattle.hv_table_rows.specs.Reading.IsSheet kind files) sheets → AreSheets kind info list files sheets
   are-sheets true files sheets taken are each = record { named = taken.named; listed = taken.listed; files_are = are ∙ taken.deletes_are; each = each }
   are-sheets false files sheets taken are each = record { named = taken.named; listed = taken.listed; files_are = are ∙ taken.inserts_are; each = each }
 
+  beside-own : (kind : Bool) (files : Tree) (sheets : List Sheet) (taken : AreTaken info.table list files inserts deletes) (are : map sheet_file sheets ≡ of_kind kind)
+      (each : Rattle.std.specs.List.AllByRecursion (Rattle.hv_table_rows.specs.Reading.IsSheet kind files) sheets) → AreOwn inserts
+      → AreOwn (files_taken false list (are-sheets kind files sheets taken are each).named)
+  beside-own true files sheets taken are each own = subst AreOwn taken.inserts_are own
+  beside-own false files sheets taken are each own = subst AreOwn taken.inserts_are own
+
   told-one : (s : Store) (kind : Bool) (dues others : List Due) (told : FilePlace) → AreAsMany dues others → AreTaken info.table list s.tree inserts deletes
-      → IsKindUncounted kind info.table.0 s.tree (of_kind kind) dues told → IsToldUncounted info list s.tree others told
+      → IsKindUncounted kind info.table.0 s.tree (of_kind kind) inserts dues told → IsToldUncounted info list s.tree others told
   told-one s kind dues others told same taken is = record {
     deletes = kind;
     sheets = is.sheets;
     read = are-sheets kind s.tree is.sheets taken is.files_are is.each;
+    beside = beside-own kind s.tree is.sheets taken is.files_are is.each is.own;
     place = is.place;
     place_is = is.place_is;
     miscounted = miscounted-as kind info.table.0 dues others is.sheets is.place told.at same is.miscounted;
@@ -126,6 +140,7 @@ module _ (info : TableInfo) (list : WriteIds) (inserts deletes : List DirFile) w
     sheets = is.sheets;
     read = is.read;
     own = is.miscounted.own;
+    beside = is.beside;
     differ = λ counted. is.miscounted.differ (counted is.miscounted.write is.place.partition);
   }
 
@@ -134,7 +149,7 @@ module _ (info : TableInfo) (list : WriteIds) (inserts deletes : List DirFile) w
   kind-is false files taken = taken.inserts_are
 
   pub amiss-so : (o : Option Store) (kind : Bool) (dues others : List Due) (why : RowFault) → AreAsMany dues others → Tells o (λ s. AreTaken info.table list s.tree inserts deletes)
-      → Tells o (λ s. TellsKind kind info.table.0 s.tree (of_kind kind) dues why) → IsDamage why → Tells o (λ s. IsAmissOf info list s.tree others)
+      → Tells o (λ s. TellsKind kind info.table.0 s.tree (of_kind kind) inserts dues why) → IsDamage why → Tells o (λ s. IsAmissOf info list s.tree others)
   amiss-so None kind dues others why same taken told damage = tt
   amiss-so (Some s) kind dues others (fault.House why) same taken told damage = absurd damage
   amiss-so (Some s) kind dues others (fault.Damaged place) same taken (inl one) damage =
@@ -146,8 +161,8 @@ module _ (info : TableInfo) (list : WriteIds) (inserts deletes : List DirFile) w
 module _ (info : TableInfo) (list ids : WriteIds) (is : list ≡ ids) (first : Option Store) (inserts deletes : List DirFile)
     (taken : Tells first (λ s. AreTaken info.table list s.tree inserts deletes)) (dues others : List Due) (same : AreAsMany dues others) where
   pub amiss-taken : (kind : Bool) (why : RowFault) (second : Option Store) → second ≡ first
-      → Tells second (λ s. TellsKind kind info.table.0 s.tree (of_kind info list inserts deletes kind) dues why) → IsDamage why → Tells first (λ s. IsAmissOf info ids s.tree others)
+      → Tells second (λ s. TellsKind kind info.table.0 s.tree (of_kind info list inserts deletes kind) inserts dues why) → IsDamage why → Tells first (λ s. IsAmissOf info ids s.tree others)
   amiss-taken kind why second at told damage =
       subst (λ l. Tells first (λ s. IsAmissOf info l s.tree others)) is
       (amiss-so info list inserts deletes first kind dues others why same taken
-      (subst (λ (x : Option Store). Tells x (λ s. TellsKind kind info.table.0 s.tree (of_kind info list inserts deletes kind) dues why)) at told) damage)
+      (subst (λ (x : Option Store). Tells x (λ s. TellsKind kind info.table.0 s.tree (of_kind info list inserts deletes kind) inserts dues why)) at told) damage)

@@ -2,8 +2,8 @@
 use Rattle.std.proofs.Common.{◌≡◌, ◌<◌, ◌≤◌, ◌+◌, ℕ, zero, suc, inl, inr, Bool, Option, Some, None, List, [], ◌∷◌, ◌++◌, Result, Ok, Err, length, get_or, take, refl, sym, ◌∙◌, ap, subst, arith}
 use Rattle.std.specs.Prelude.{IfErr, IsErrAnd}
 use Rattle.std.proofs.Math.Seq.{take-length}
-use Rattle.std.specs.FinMap as tree
 use Rattle.hv_base.specs.Told.{Tells}
+use Rattle.hv_base.specs.declared.ids.TxnId.{TxnId}
 use Rattle.hv_shelf.specs.Disk.{Store}
 use Rattle.hv_choosing.specs.declared.listing.DirFile.{DirFile}
 use Rattle.hv_choosing.specs.Dirs.{span_of}
@@ -30,17 +30,17 @@ pub record ReadsUpTo {X : Type 0} (o : Option Store) (deletes : Bool) (taken : L
   pub reads : Tells o (λ s. Reads deletes s.tree taken pick items)
   pub counted : CountsUpTo o deletes taken counts
 
-module _ {D : Type 0} (told : D → Option Store) (before now : HouseSeen D) (behind : GoesBehind before now) (deletes : Bool) (taken : List DirFile) (i : ℕ) (file : DirFile)
+module _ {D : Type 0} (told : D → Option Store) (by : TxnId) (before now : HouseSeen D) (behind : GoesBehind before now) (deletes : Bool) (taken : List DirFile) (i : ℕ) (file : DirFile)
     (low : i < length taken) (at : file ≡ get_or taken i file) where
   -- the next one is steady
-  pub one-of-them : (o : Option Store) → AreSteady told o before taken → IsSteady told o now file.place
-  one-of-them o steady = steady-on told o before now file.place behind (steady file (subst (λ (f : DirFile). IsIn f taken) (sym at) (in-at taken i file low)))
+  pub one-of-them : (o : Option Store) → AreSteady told o by before taken → IsSteady told o by now file.place
+  one-of-them o steady = steady-on told o by before now file.place behind (steady file (subst (λ (f : DirFile). IsIn f taken) (sym at) (in-at taken i file low)))
 
   pub reads-on : {X : Type 0} (pick : Sheet → List X) (items more all : List X) (counts counts' : List Counted) (recs : List Rec)
-      → ((o : Option Store) → AreSteady told o before taken → ReadsUpTo o deletes (take i taken) pick items counts)
-      → ((o : Option Store) → IsSteady told o now file.place → Tells o (λ s. HoldsAt s.tree file.place deletes (span_of file.dir) recs))
+      → ((o : Option Store) → AreSteady told o by before taken → ReadsUpTo o deletes (take i taken) pick items counts)
+      → ((o : Option Store) → IsSteady told o by now file.place → Tells o (λ s. HoldsAt s.tree file.place deletes (span_of file.dir) recs))
       → more ≡ pick (record { file = file; recs = recs }) → all ≡ items ++ more → counts' ≡ counts ++ counted_at deletes file.place recs ∷ []
-      → (o : Option Store) → AreSteady told o before taken → ReadsUpTo o deletes (take (i + 1) taken) pick all counts'
+      → (o : Option Store) → AreSteady told o by before taken → ReadsUpTo o deletes (take (i + 1) taken) pick all counts'
   reads-on pick items more all counts counts' recs sofar held picked added counted o steady =
       let done = sofar o steady in
       let holds = held o (one-of-them o steady) in
@@ -50,8 +50,8 @@ module _ {D : Type 0} (told : D → Option Store) (before now : HouseSeen D) (be
       }
 
   pub damage-up : {T : Type 0} (result : Result T RowFault) (why : RowFault) → IsErrAnd result (λ w. w ≡ why)
-      → ((o : Option Store) → IsSteady told o now file.place → Tells o (λ s. TellsFile s.tree file.place deletes (span_of file.dir) why))
-      → (o : Option Store) → AreSteady told o before taken → IfErr result (λ w. Tells o (λ s. TellsOne deletes s.tree taken w))
+      → ((o : Option Store) → IsSteady told o by now file.place → Tells o (λ s. TellsFile s.tree file.place deletes (span_of file.dir) why))
+      → (o : Option Store) → AreSteady told o by before taken → IfErr result (λ w. Tells o (λ s. TellsOne deletes s.tree taken w))
   damage-up (Ok x) why left tells o steady = absurd left
   damage-up {T = T} (Err w) why left tells o steady =
       err-told {T = T} o o deletes taken i file (Err w) why w refl left low at refl (tells o (one-of-them o steady))

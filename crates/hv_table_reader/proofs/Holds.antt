@@ -1,7 +1,8 @@
 -- What one act leaves that reads or asks.
-use Rattle.std.proofs.Common.{◌≡◌, ◌≤◌, ◌⊎◌, inl, inr, ℕ, Bool, true, false, Option, Some, List, [], Result, Ok, Err, refl, sym, ◌∙◌, ap, subst, append-nil, true≢false, arith}
+use Rattle.std.proofs.Common.{◌≡◌, ◌≤◌, ◌⊎◌, inl, inr, ℕ, Bool, true, false, Option, Some, None, List, [], Result, Ok, Err, refl, sym, ◌∙◌, ap, subst, append-nil, true≢false, arith}
 use Rattle.std.specs.Prelude.{◌||◌, IfErr}
 use Rattle.std.specs.List.{AllByRecursion}
+use Rattle.std.specs.Global.{Vec}
 use Rattle.hv_base.specs.Faults.{Rose}
 use Rattle.hv_base.specs.declared.ids.TxnId.{TxnId}
 use Rattle.hv_shelf.specs.Disk.{Store}
@@ -27,11 +28,11 @@ use Rattle.hv_acts.specs.declared.told.ToldHouse.{ToldHouse}
 use Rattle.hv_acts.specs.declared.fault.ActFault.{ActFault}
 use Rattle.hv_acts.specs.declared.fault.ActFault.TheVariants as act
 use Rattle.hv_acts.specs.Told.{IsWholeOrClosed, seen_in, trail_in, told_sight}
-use Rattle.hv_acts.specs.Answers.{answer_outcome, FaultLeaves, AnswerLeaves, FaultRises, WhyRises}
-use Rattle.hv_acts.specs.Reading.{IsFindWhy, GetLeaves, GetRises, adds_listing, adds_getting}
+use Rattle.hv_acts.specs.Answers.{act_outcome, answer_outcome, FaultLeaves, WhyLeaves, AnswerLeaves, FaultRises, WhyRises}
+use Rattle.hv_acts.specs.Reading.{IsFindWhy, GetLeaves, GetRises, adds_read, adds_listing, adds_getting}
 use Rattle.hv_acts.specs.Going.{faults_in, IsOpenHouse, AddsOwn, IsShutBetween}
 use Rattle.hv_acts.proofs.Mine.{broken-mine}
-use Rattle.hv_table_reader.specs.Tables.{LeavesSeeing, LooksOver}
+use Rattle.hv_table_reader.specs.Tables.{LeavesSeeing, LooksOver, IsListFault, fault_of, missed_as}
 
 -- ---- a call that leaves the house open
 
@@ -152,6 +153,19 @@ module _ {D : Type 0} (told : D → Option Store) (faults : D → ℕ) (between 
           counts = (omega (arith, grown, rises), omega (arith, is));
         }
 
+    -- so too where the transaction had ended: nothing was read
+    pub read-refused : {T : Type 0} (why : ActFault) → IsListFault why
+        → Step told faults (Read (Some (Txn by))) (act_outcome why) (seen_in house) (seen_in now)
+        → WhyLeaves told faults by.0 (seen_in house) (seen_in now) why → WhyRises faults (seen_in house) why
+        → Went between (adds_read by why) own own' (trail_in before) (trail_in now)
+        → LooksOver {T = T} (among told faults between meanwhile) by (known own before) (known own' now) (Err (row_fault.House (fault_of why)))
+    read-refused (act.Ended at) lists step leaves rises went = read-failed fault.NoMemory step leaves tt went
+    read-refused (act.Full entries) lists step leaves rises went = absurd lists
+    read-refused (act.Held holder) lists step leaves rises went = absurd lists
+    read-refused (act.Broken put count) lists step leaves rises went = absurd lists
+    read-refused act.Unfit lists step leaves rises went = absurd lists
+    read-refused (act.House why) lists step leaves rises went = read-failed why step leaves rises went
+
   -- ---- a call that asks
 
   module _ (own own' : List ℕ) (before house now : ToldHouse D) (reached : meanwhile before house) (by : TxnId) (was : IsOpenHouse before) where
@@ -211,16 +225,15 @@ module _ {D : Type 0} (told : D → Option Store) (faults : D → ℕ) (between 
           (subst (λ (r : Result X ActFault). AnswerLeaves told faults by.0 (seen_in held.house) (seen_in now) r) is held.does_it.1)
           (subst (λ (r : Result X ActFault). Went between (adds_listing by r) own own' (trail_in before) (trail_in now)) is went)
 
-      pub unlisted : {T : Type 0} (why : ActFault) (by_house : HouseFault) (row : RowFault) → result ≡ Err why → why ≡ act.House by_house → row ≡ row_fault.House by_house
+      pub unlisted : {T : Type 0} (why : ActFault) (row : RowFault) → result ≡ Err why → IsListFault why → row ≡ row_fault.House (fault_of why)
           → LooksOver {T = T} (among told faults between meanwhile) by (known own before) (known own' now) (Err row)
-      unlisted {T = T} why by_house row is why_is row_is =
-          let same : result ≡ Err (act.House by_house) = is ∙ ap (λ (w : ActFault). Err w) why_is in
+      unlisted {T = T} why row is lists row_is =
           subst (λ (r : RowFault). LooksOver {T = T} (among told faults between meanwhile) by (known own before) (known own' now) (Err r)) (sym row_is)
-          (read-failed own own' before held.house now held.reached held.kept by was by_house
-          (subst (λ (r : Result X ActFault). Step told faults (Read (Some (Txn by))) (answer_outcome r) (seen_in held.house) (seen_in now)) same held.step)
-          (subst (λ (r : Result X ActFault). AnswerLeaves told faults by.0 (seen_in held.house) (seen_in now) r) same held.does_it.1)
-          (subst (λ (r : Result X ActFault). IfErr r (WhyRises faults (seen_in held.house))) same held.does_it.2)
-          (subst (λ (r : Result X ActFault). Went between (adds_listing by r) own own' (trail_in before) (trail_in now)) same went))
+          (read-refused own own' before held.house now held.reached held.kept by was why lists
+          (subst (λ (r : Result X ActFault). Step told faults (Read (Some (Txn by))) (answer_outcome r) (seen_in held.house) (seen_in now)) is held.step)
+          (subst (λ (r : Result X ActFault). AnswerLeaves told faults by.0 (seen_in held.house) (seen_in now) r) is held.does_it.1)
+          (subst (λ (r : Result X ActFault). IfErr r (WhyRises faults (seen_in held.house))) is held.does_it.2)
+          (subst (λ (r : Result X ActFault). Went between (adds_listing by r) own own' (trail_in before) (trail_in now)) is went))
 
     -- an act that gets
     module _ {X : Type 0} (by : TxnId) (result : Result X GetFault) (Answers : HouseSeen D → Result X GetFault → Type 0)
@@ -240,13 +253,20 @@ module _ {D : Type 0} (told : D → Option Store) (faults : D → ℕ) (between 
       got x y is =
           done own own' before held.house now held.reached (Read (Some (Txn by))) by y (subst StepOf is held.step) (subst LeavesOf is held.does_it.1) (subst WentOf is went)
 
-      pub missed : {T : Type 0} (y : T) → result ≡ Err get_fault.NotFound
-          → LooksOver (among told faults between meanwhile) by (known own before) (known own' now) (Ok y)
-      missed y is =
-          done own own' before held.house now held.reached (Read (Some (Txn by))) by y (subst StepOf is held.step) (subst LeavesOf is held.does_it.1) (subst WentOf is went)
-
-      pub ungot : {T : Type 0} (why : HouseFault) → result ≡ Err (get_fault.House why)
-          → LooksOver {T = T} (among told faults between meanwhile) by (known own before) (known own' now) (Err (row_fault.House why))
-      ungot why is =
+      -- none was got
+      ungot-as : (why : GetFault) → result ≡ Err why
+          → LooksOver {T = Option (Vec ℕ)} (among told faults between meanwhile) by (known own before) (known own' now) (missed_as why)
+      ungot-as (get_fault.NotOpen at) is =
+          read-failed own own' before held.house now held.reached held.kept by was fault.NoMemory (subst StepOf is held.step) (subst LeavesOf is held.does_it.1) tt
+          (subst WentOf is went)
+      ungot-as get_fault.NotFound is =
+          done own own' before held.house now held.reached (Read (Some (Txn by))) by None (subst StepOf is held.step) (subst LeavesOf is held.does_it.1) (subst WentOf is went)
+      ungot-as (get_fault.House why) is =
           read-failed own own' before held.house now held.reached held.kept by was why (subst StepOf is held.step) (subst LeavesOf is held.does_it.1)
           (subst (λ (r : Result X GetFault). IfErr r (GetRises faults (seen_in held.house))) is held.does_it.2) (subst WentOf is went)
+
+      pub ungot : (why : GetFault) (answer : Result (Option (Vec ℕ)) RowFault) → result ≡ Err why → answer ≡ missed_as why
+          → LooksOver (among told faults between meanwhile) by (known own before) (known own' now) answer
+      ungot why answer is same =
+          subst (λ (r : Result (Option (Vec ℕ)) RowFault). LooksOver (among told faults between meanwhile) by (known own before) (known own' now) r) (sym same)
+          (ungot-as why is)

@@ -3,7 +3,6 @@ pub mod Counts
 pub mod Files
 pub mod Holds
 pub mod Moments
-pub mod Seen
 pub mod Sheets
 pub mod Stood
 pub mod TableLooks

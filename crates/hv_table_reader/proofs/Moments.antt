@@ -1,10 +1,11 @@
--- Moments of a house that others act on: what was found, counted and listed then is so of its longer book too.
-use Rattle.std.proofs.Common.{◌≡◌, ◌≤◌, ℕ, Option, Some, None, List, ◌++◌, length, take, option_map, sym, ◌∙◌, ap, subst, append_assoc, arith}
+-- A house that others act on: what was found, counted and listed at some moment is so of its longer book too.
+use Rattle.std.proofs.Common.{◌≡◌, ◌≤◌, ℕ, Option, Some, None, List, ◌++◌, length, take, option_map, sym, ◌∙◌, ap, subst, append_assoc}
 use Rattle.std.specs.Prelude.{IsSomeAnd}
 use Rattle.std.specs.Global.{Vec}
 use Rattle.std.specs.FinMap as tree
 use Rattle.std.proofs.lemmas.List.{take-append-le}
 use Rattle.hv_base.specs.Told.{Tells}
+use Rattle.hv_base.specs.declared.ids.TxnId.{TxnId}
 use Rattle.hv_base.specs.declared.ids.TableId.{TableId}
 use Rattle.hv_shelf.specs.declared.place.Place.{Place}
 use Rattle.hv_shelf.specs.Disk.{Store}
@@ -30,9 +31,10 @@ use Rattle.hv_acts.specs.declared.told.ToldHouse.{ToldHouse}
 use Rattle.hv_acts.specs.Told.{IsWholeOrClosed, seen_in, trail_in, book_in}
 use Rattle.hv_acts.specs.Counting.{AreAsMany}
 use Rattle.hv_acts.specs.Going.{IsOpenHouse, AddsOwn}
-use Rattle.hv_acts.specs.Reading.{HasPlace, HasFittingBook, HasListed, HasGot, HasMissed, ReadsOnTold, IsGotStill, AllGotStill, state_then, info_then, IsThere}
-use Rattle.hv_acts.proofs.Readings.{then-same, found-there, all-got}
-use Rattle.hv_table_reader.specs.Steady.{GoesBehind, IsSteady, AreSteady, IsMoment, HasMoment, IsNamedThen, AreListedSteady, IsListing, bytes_got}
+use Rattle.hv_acts.specs.Reading.{HasPlace, ReadsTable, HasListed, HasGot, HasMissed, ReadsOnTold, IsGotStill, AllGotStill, state_then, info_then, IsThere}
+use Rattle.hv_acts.proofs.Readings.{then-same, found-there, reads-at}
+use Rattle.hv_acts.proofs.Listed.{all-got}
+use Rattle.hv_table_reader.specs.Steady.{GoesBehind, IsSteady, AreSteady, IsNamedThen, AreListedSteady, IsListing, bytes_got}
 
 -- ---- fronts
 
@@ -72,25 +74,26 @@ module _ {D : Type 0} (told : D → Option Store) where
   pub told-before : (a b : ToldHouse D) → GoesBehind (seen_in a) (seen_in b) → IsToldHouse told b.house → IsToldHouse told a.house
   told-before a b behind is = subst (IsTold told) behind.start is
 
-  pub steady-on : (o : Option Store) (a b : HouseSeen D) (place : Place) → GoesBehind a b → IsSteady told o a place → IsSteady told o b place
-  steady-on o a b place behind steady = record {
+  pub steady-on : (o : Option Store) (by : TxnId) (a b : HouseSeen D) (place : Place) → GoesBehind a b → IsSteady told o by a place → IsSteady told o by b place
+  steady-on o by a b place behind steady = record {
     got = λ now bytes later. steady.got now bytes (behind-more a b now behind later);
     unmissed = λ now later. steady.unmissed now (behind-more a b now behind later);
   }
 
   -- of a store that isn't told nothing is said
-  pub none-steady : (before : HouseSeen D) (taken : List DirFile) → AreSteady told None before taken
-  none-steady before taken = λ file among. record { got = λ now bytes behind has. tt; unmissed = λ now behind has. tt }
+  pub none-steady : (by : TxnId) (before : HouseSeen D) (taken : List DirFile) → AreSteady told None by before taken
+  none-steady by before taken = λ file among. record { got = λ now bytes behind has. tt; unmissed = λ now behind has. tt }
 
-  pub all-steady-on : (o : Option Store) (a b : HouseSeen D) (taken : List DirFile) → GoesBehind a b → AreSteady told o a taken → AreSteady told o b taken
-  all-steady-on o a b taken behind steady = λ file among. steady-on o a b file.place behind (steady file among)
+  pub all-steady-on : (o : Option Store) (by : TxnId) (a b : HouseSeen D) (taken : List DirFile) → GoesBehind a b → AreSteady told o by a taken
+      → AreSteady told o by b taken
+  all-steady-on o by a b taken behind steady = λ file among. steady-on o by a b file.place behind (steady file among)
 
-  pub listed-on : (o : Option Store) (a b : HouseSeen D) (info : TableInfo) (listing : Listing) → GoesBehind a b → AreListedSteady told o a info listing
-      → AreListedSteady told o b info listing
-  listed-on o a b info listing behind files = record {
+  pub listed-on : (o : Option Store) (by : TxnId) (a b : HouseSeen D) (info : TableInfo) (listing : Listing) → GoesBehind a b
+      → AreListedSteady told o by a info listing → AreListedSteady told o by b info listing
+  listed-on o by a b info listing behind files = record {
     taken = files.taken;
-    inserts = all-steady-on o a b listing.inserts.items behind files.inserts;
-    deletes = all-steady-on o a b listing.deletes.items behind files.deletes;
+    inserts = all-steady-on o by a b listing.inserts.items behind files.inserts;
+    deletes = all-steady-on o by a b listing.deletes.items behind files.deletes;
   }
 
   -- ---- what is got
@@ -99,91 +102,75 @@ module _ {D : Type 0} (told : D → Option Store) where
   told-any None P never = tt
   told-any (Some s) P never = absurd never
 
-  pub got-steady : (o : Option Store) (before house : HouseSeen D) (place : Place) (bytes : Vec ℕ) → GoesBehind before house → IsSteady told o before place
-      → HasGot told house place bytes.items → Tells o (λ s. tree.get s.tree place ≡ bytes_got (Some bytes))
-  got-steady o before house place bytes behind steady has = steady.got house bytes.items behind has
+  pub got-steady : (o : Option Store) (by : TxnId) (before house : HouseSeen D) (place : Place) (bytes : Vec ℕ) → GoesBehind before house
+      → IsSteady told o by before place → HasGot told house by place bytes.items → Tells o (λ s. tree.get s.tree place ≡ bytes_got (Some bytes))
+  got-steady o by before house place bytes behind steady has = steady.got house bytes.items behind has
 
-  pub missed-steady : (o : Option Store) (before house : HouseSeen D) (place : Place) → GoesBehind before house → IsSteady told o before place
-      → HasMissed told house place → Tells o (λ s. tree.get s.tree place ≡ bytes_got None)
-  missed-steady o before house place behind steady has = told-any o _ (steady.unmissed house behind has)
+  pub missed-steady : (o : Option Store) (by : TxnId) (before house : HouseSeen D) (place : Place) → GoesBehind before house
+      → IsSteady told o by before place → HasMissed told house by place → Tells o (λ s. tree.get s.tree place ≡ bytes_got None)
+  missed-steady o by before house place behind steady has = told-any o (λ (s : Store). tree.get s.tree place ≡ bytes_got None) (steady.unmissed house behind has)
 
--- ---- a moment
+-- ---- files that were listed
 
-pub moment-on : (now later : List Entry) (place : ℕ) (book : List Entry) (store : Store) → IsFront now later → IsMoment now place book store → IsMoment later place book store
-moment-on now later place book store front is = record {
-  faithful = is.faithful;
-  few = is.few;
-  front = front-more book now later is.front front;
-  has = is.has;
-}
+module _ {D : Type 0} (told : D → Option Store) (house now : ToldHouse D) (kept : IsWholeOrClosed told house.house) (running : IsOpenHouse house)
+    (behind : GoesBehind (seen_in house) (seen_in now)) (by : TxnId) (place : ℕ) (info : TableInfo) (listing : Listing)
+    (reads : ReadsTable (trail_in house) by place info.table.0) (named : IsNamedThen (trail_in house) place info)
+    (listed : HasListed told (seen_in house) by place info.table listing) (is : IsToldHouse told house.house) where
+  there : IsThere (trail_in house) place info
+  there = found-there (trail_in house) place named.name info listed.book named.named
 
-module _ {D : Type 0} (told : D → Option Store) (faults : D → ℕ) (house now : ToldHouse D) (kept : IsWholeOrClosed told house.house) (running : IsOpenHouse house)
-    (book : HasFittingBook (trail_in house)) (behind : GoesBehind (seen_in house) (seen_in now)) (place : ℕ) (has : HasPlace (trail_in house) place) where
-  pub shown-now : IsToldHouse told house.house → (store : Store) × (told house.house.shelf ≡ Some store) × IsFaithful (book_in house) store
-  shown-now is =
-      let shown = whole-shown told house.house (kept.whole running) is in (
-        shown.0,
-        shown.1,
-        subst (λ (entries : List Entry). IsFaithful entries shown.0) (sym (house-book house.house)) shown.2,
+  shown : (store : Store) × (told house.house.shelf ≡ Some store) × IsFaithful (book_in house) store
+  shown =
+      let whole = whole-shown told house.house (kept.whole running) is in (
+        whole.0,
+        whole.1,
+        subst (λ (entries : List Entry). IsFaithful entries whole.0) (sym (house-book house.house)) whole.2,
       )
 
-  moment-of : (store : Store) → IsFaithful (book_in house) store → IsMoment (book_in now) place (book_in house) store
-  moment-of store faithful = record {
-    faithful = faithful;
-    few = (let few = book.few in omega (arith, few));
-    front = book-front (trail_in house) (trail_in now) behind.front;
-    has = has;
+  reads-there : ReadsTable (trail_in house) by place there.table.info.table.0
+  reads-there = subst (λ (i : TableInfo). ReadsTable (trail_in house) by place i.table.0) (sym there.info_is) reads
+
+  reads-on : (later : HouseSeen D) → GoesBehind (seen_in house) later → ReadsOnTold told (seen_in house) later by place there.table
+  reads-on later goes = record { is_told = is; start = goes.start; front = goes.front; reads = reads-there; here = there.here }
+
+  got-still : (later : HouseSeen D) → GoesBehind (seen_in house) later
+      → AllGotStill told (seen_in house) later by listing.inserts.items × AllGotStill told (seen_in house) later by listing.deletes.items
+  got-still later goes =
+      all-got told (seen_in house) later by place there.table (reads-on later goes) listing
+      (subst (λ (i : TableInfo). HasListed told (seen_in house) by place i.table listing) (sym there.info_is) listed)
+
+  at-store : (store : Store) (P : Store → Type 0) → told house.house.shelf ≡ Some store → IsSomeAnd (told house.house.shelf) P → P store
+  at-store store P at some = subst (λ (o : Option Store). IsSomeAnd o P) at some
+
+  at-told : (store : Store) (P : Store → Type 0) → told house.house.shelf ≡ Some store → Tells (told house.house.shelf) P → P store
+  at-told store P at tells = subst (λ (o : Option Store). Tells o P) at tells
+
+  one-steady : (store : Store) (file : DirFile) → told house.house.shelf ≡ Some store
+      → ((later : HouseSeen D) → GoesBehind (seen_in house) later → IsGotStill told (seen_in house) later by file)
+      → IsSteady told (Some store) by (seen_in now) file.place
+  one-steady store file at still = record {
+    got = λ later bytes goes got. at-store store (λ s. tree.get s.tree file.place ≡ Some bytes) at
+        ((still later (behind-more (seen_in house) (seen_in now) later behind goes)).got bytes got);
+    unmissed = λ later goes missed. (still later (behind-more (seen_in house) (seen_in now) later behind goes)).never_missed missed;
   }
 
-  pub moment-now : IsToldHouse told house.house → HasMoment (book_in now) place
-  moment-now is = let shown = shown-now is in (book_in house, shown.0, moment-of shown.0 shown.2)
-
-  -- ---- files that were listed then
-
-  module _ (info : TableInfo) (listing : Listing) (named : IsNamedThen (trail_in house) place info) (listed : HasListed told (seen_in house) place info.table listing)
-      (is : IsToldHouse told house.house) where
-    there : IsThere (trail_in house) place info
-    there = found-there (trail_in house) place named.name info book named.named
-
-    reads-on : (later : HouseSeen D) → GoesBehind (seen_in house) later → ReadsOnTold told (seen_in house) later place there.table
-    reads-on later goes = record { is_told = is; start = goes.start; front = goes.front; has = has; here = there.here }
-
-    got-still : (later : HouseSeen D) → GoesBehind (seen_in house) later
-        → AllGotStill told (seen_in house) later listing.inserts.items × AllGotStill told (seen_in house) later listing.deletes.items
-    got-still later goes =
-        all-got told (seen_in house) later place there.table (reads-on later goes) listing
-        (subst (λ (i : TableInfo). HasListed told (seen_in house) place i.table listing) (sym there.info_is) listed)
-
-    at-store : (store : Store) (P : Store → Type 0) → told house.house.shelf ≡ Some store → IsSomeAnd (told house.house.shelf) P → P store
-    at-store store P at some = subst (λ (o : Option Store). IsSomeAnd o P) at some
-
-    at-told : (store : Store) (P : Store → Type 0) → told house.house.shelf ≡ Some store → Tells (told house.house.shelf) P → P store
-    at-told store P at tells = subst (λ (o : Option Store). Tells o P) at tells
-
-    one-steady : (store : Store) (file : DirFile) → told house.house.shelf ≡ Some store
-        → ((later : HouseSeen D) → GoesBehind (seen_in house) later → IsGotStill told (seen_in house) later file) → IsSteady told (Some store) (seen_in now) file.place
-    one-steady store file at still = record {
-      got = λ later bytes goes got. at-store store (λ s. tree.get s.tree file.place ≡ Some bytes) at
-          ((still later (behind-more (seen_in house) (seen_in now) later behind goes)).got bytes got);
-      unmissed = λ later goes missed. (still later (behind-more (seen_in house) (seen_in now) later behind goes)).never_missed missed;
-    }
-
-    pub listing-now : IsListing told now place info listing
-    listing-now =
-        let shown = shown-now is in
-        record {
-          book = book_in house;
-          store = shown.0;
-          moment = moment-of shown.0 shown.2;
-          name = named.name;
-          named = named.named;
-          list = listed.list;
-          files = record {
-            taken = at-told shown.0 (λ s. AreTaken info.table listing.list s.tree listing.inserts.items listing.deletes.items) shown.1 listed.files;
-            inserts = λ file among. one-steady shown.0 file shown.1 (λ later goes. (got-still later goes).0 file among);
-            deletes = λ file among. one-steady shown.0 file shown.1 (λ later goes. (got-still later goes).1 file among);
-          };
-        }
+  pub listing-now : IsListing told now by place info listing
+  listing-now = record {
+    book = book_in house;
+    store = shown.0;
+    legal = shown.2.legal;
+    front = book-front (trail_in house) (trail_in now) behind.front;
+    has = reads.reader.has;
+    table = there.table;
+    info_is = there.info_is;
+    reads = reads-at (trail_in house) by place listed.book listed.unended there.table shown.0.tree reads-there there.here shown.2.stands;
+    list = listed.list;
+    files = record {
+      taken = at-told shown.0 (λ s. AreTaken info.table listing.list s.tree listing.inserts.items listing.deletes.items) shown.1 listed.files;
+      inserts = λ file among. one-steady shown.0 file shown.1 (λ later goes. (got-still later goes).0 file among);
+      deletes = λ file among. one-steady shown.0 file shown.1 (λ later goes. (got-still later goes).1 file among);
+    };
+  }
 
 -- ---- what was found and counted
 

@@ -1,18 +1,25 @@
 -- The rows of a table that was listed at a moment, and what is seen of it.
-use Rattle.std.proofs.Common.{◌≡◌, ◌≤◌, ℕ, Bool, true, false, Option, Some, None, Result, Ok, Err, List, [], length, take, option_map, refl, sym, ◌∙◌, ap, subst, IsPermutation}
+use Rattle.std.proofs.Common.{◌≡◌, ℕ, Bool, true, false, if◌then◌else◌, Option, Some, None, Result, Ok, Err, List, [], take, option_map, refl, sym, ◌∙◌, ap, subst, IsPermutation}
 use Rattle.std.specs.Prelude.{IfOk, IfErr, IsErrAnd}
 use Rattle.std.specs.Global.{Vec}
 use Rattle.hv_base.specs.Told.{Tells}
+use Rattle.hv_base.specs.declared.ids.TxnId.{TxnId}
 use Rattle.hv_shelf.specs.Disk.{Store}
 use Rattle.hv_logic.specs.declared.catalog.TableInfo.{TableInfo}
 use Rattle.hv_logic.specs.declared.effect.Found.{Found}
+use Rattle.hv_logic.specs.declared.seen.Seen.{Seen}
 use Rattle.hv_logic.specs.Rows.{found_cmp}
 use Rattle.hv_law_dues.specs.hv_counts.specs.declared.due.Due.{Due}
 use Rattle.hv_law_dues.specs.hv_counts.specs.Counts.{dues_in}
 use Rattle.hv_history.specs.declared.entry.Entry.{Entry}
-use Rattle.hv_history.specs.State.{State, state_of}
+use Rattle.hv_history.specs.declared.state.Table.{Table}
+use Rattle.hv_history.specs.State.{State, state_of, numbered, content_of}
 use Rattle.hv_history.specs.Lasting.{IsFront}
 use Rattle.hv_stands.specs.Reading.{table_of_name}
+use Rattle.hv_stands.specs.Sound.{NumberedFrom}
+use Rattle.hv_stands.proofs.Fitting.{fitting-sound, fronts-fit}
+use Rattle.hv_stands.proofs.Numbers.{same_one}
+use Rattle.hv_stands.proofs.Tables.{named-numbered}
 use Rattle.hv_table_rows.specs.declared.row_at.RowAt.{RowAt}
 use Rattle.hv_wids.specs.WriteIds.{WriteIds}
 use Rattle.hv_table_rows.specs.Reading.{Reads, AreOnce, AreRows, deleted_in, left_in}
@@ -22,28 +29,32 @@ use Rattle.hv_table_reader.specs.declared.fault.RowFault.{RowFault}
 use Rattle.hv_acts.specs.hv_telling.specs.hv_house.specs.declared.listing.Listing.{Listing}
 use Rattle.hv_table_reader.specs.Damage.{IsDamage}
 use Rattle.hv_acts.specs.hv_telling.specs.hv_house.specs.Listing.{info_in, AreTaken}
-use Rattle.hv_acts.specs.hv_telling.specs.hv_house.specs.Seeing.{IsSeenOf}
+use Rattle.hv_acts.specs.hv_telling.specs.hv_house.specs.Seeing.{ids_in}
 use Rattle.hv_acts.specs.declared.told.ToldHouse.{ToldHouse}
 use Rattle.hv_acts.specs.Told.{book_in}
 use Rattle.hv_acts.specs.Counting.{AreAsMany}
-use Rattle.hv_acts.specs.Reading.{info_then, state_then}
+use Rattle.hv_acts.specs.Reading.{HasPlace, HasFittingBook, info_then, state_then}
+use Rattle.hv_acts.proofs.Readings.{then-same}
 use Rattle.hv_table_reader.specs.Counting.{TellsKind, IsAmissOf}
 use Rattle.hv_table_reader.proofs.Sheets.{rows-taken}
 use Rattle.hv_table_reader.proofs.Counts.{of_kind, amiss-taken}
-use Rattle.hv_table_reader.proofs.Seen.{seen-found, seen-none, amiss}
-use Rattle.hv_table_reader.proofs.Stood.{none-amiss}
-use Rattle.hv_table_reader.specs.Tables.{IsSeenThen}
-use Rattle.hv_table_reader.specs.Steady.{HasMoment, IsListing, HasRowsThen, HasReadThen}
-use Rattle.hv_table_reader.proofs.Moments.{take-front, moment-on}
+use Rattle.hv_table_reader.proofs.Stood.{rows-content, none-amiss}
+use Rattle.hv_table_reader.specs.Tables.{seen_with}
+use Rattle.hv_table_reader.specs.Steady.{IsListing, HasRowsThen, HasReadThen}
+use Rattle.hv_table_reader.proofs.Moments.{front-more, take-front}
 
-module _ {D : Type 0} (told : D → Option Store) (now : ToldHouse D) (place : ℕ) (info : TableInfo) (listing : Listing) (is : IsListing told now place info listing) where
-  -- the rows that its files showed
-  pub rows-then : (later : List Entry) → IsFront (book_in now) later → (rows : List Found) → AreRows info listing.list is.store.tree rows → HasRowsThen later place info rows
+module _ {D : Type 0} (told : D → Option Store) (now : ToldHouse D) (by : TxnId) (place : ℕ) (info : TableInfo) (listing : Listing)
+    (is : IsListing told now by place info listing) where
+  -- the rows that its files showed are those that stood in it
+  rows-then : (later : List Entry) → IsFront (book_in now) later → (rows : List Found) → AreRows info listing.list is.store.tree rows → HasRowsThen later place info rows
   rows-then later front rows are = record {
-    book = is.book;
-    store = is.store;
-    moment = moment-on (book_in now) later place is.book is.store front is.moment;
-    are = subst (λ (list : WriteIds). AreRows info list is.store.tree rows) is.list are;
+    table = is.table;
+    here = ap (λ (entries : List Entry). numbered (state_of entries).tables is.table.info.table.0)
+        (take-front is.book later place (front-more is.book (book_in now) later is.front front) is.has) ∙ is.reads.stood;
+    info_is = is.info_is;
+    rows_are = rows-content is.book by.0 place is.table is.store.tree rows is.reads
+        (subst (λ (i : TableInfo). AreRows i (ids_in (state_of (take place is.book)) i.table.0) is.store.tree rows) (sym is.info_is)
+        (subst (λ (list : WriteIds). AreRows info list is.store.tree rows) is.list are));
   }
 
   pub all-rows-then : (later : List Entry) → IsFront (book_in now) later → (result : Result (Vec Found) RowFault)
@@ -55,8 +66,8 @@ module _ {D : Type 0} (told : D → Option Store) (now : ToldHouse D) (place : �
   pub never-amiss : IsAmissOf info listing.list is.store.tree (dues_in (state_of (take place is.book)) info.table.0) → ⊥
   never-amiss spoils =
       let state : State = state_of (take place is.book) in
-      none-amiss is.book place is.store is.moment.faithful.legal is.moment.few is.moment.faithful.stands
-      (amiss (Some is.store) is.name state (Some info) info is.named refl
+      none-amiss is.book by.0 place is.table is.store.tree is.legal is.reads
+      (subst (λ (i : TableInfo). IsAmissOf i (ids_in state i.table.0) is.store.tree (dues_in state i.table.0)) (sym is.info_is)
       (subst (λ (list : WriteIds). IsAmissOf info list is.store.tree (dues_in state info.table.0)) is.list spoils))
 
 -- ---- of the files that were listed
@@ -70,7 +81,7 @@ module _ (o : Option Store) (info : TableInfo) (listing : Listing) (taken : Tell
       rows-taken info listing.list listing.list refl o listing.inserts.items listing.deletes.items taken o o refl refl gone others rows once permuted deletes inserts risen
 
   pub listed-amiss : (kind : Bool) (dues others : List Due) (why : RowFault) → AreAsMany dues others
-      → Tells o (λ s. TellsKind kind info.table.0 s.tree (of_kind info listing.list listing.inserts.items listing.deletes.items kind) dues why) → IsDamage why
+      → Tells o (λ s. TellsKind kind info.table.0 s.tree (of_kind info listing.list listing.inserts.items listing.deletes.items kind) listing.inserts.items dues why) → IsDamage why
       → Tells o (λ s. IsAmissOf info listing.list s.tree others)
   listed-amiss kind dues others why same tells damage =
       amiss-taken info listing.list listing.list refl o listing.inserts.items listing.deletes.items taken dues others same kind why o refl tells damage
@@ -87,49 +98,48 @@ undamaged-up (Err w) why left is = subst (λ (v : RowFault). IsDamage v → ⊥)
 
 -- ---- what is seen
 
--- at a moment of a book the same is found
-named-then : (now : List TrailItem) (place : ℕ) (name : List ℕ) (found : Option TableInfo) (book : List Entry) → IsFront book (book_of now) → place ≤ length book
-    → found ≡ info_then now place name → found ≡ option_map info_in (table_of_name name (state_of (take place book)).tables)
-named-then now place name found book front has is =
-    is ∙ ap (λ (entries : List Entry). option_map info_in (table_of_name name (state_of entries).tables)) (take-front book (book_of now) place front has)
+-- the tables at a place of the book are numbered in their order
+pub order-then : (before now : List TrailItem) (place : ℕ) → IsFront before now → HasPlace before place → HasFittingBook before
+    → NumberedFrom 1 (state_then now place).tables
+order-then before now place front has book =
+    subst (λ (s : State). NumberedFrom 1 s.tables) (sym (then-same before now front place has))
+    (fitting-sound (take place (book_of before)) (fronts-fit (book_of before) place book.fit)).tables.in_order
 
-module _ (now : List TrailItem) (place : ℕ) (name : List ℕ) (reads : Bool) where
-  -- a table was found
-  pub untold-some : (info : TableInfo) (rows : List Found) → Some info ≡ info_then now place name → (reads ≡ false → rows ≡ [])
-      → IsSeenOf None reads (state_then now place) (table_of_name name (state_then now place).tables) (Some (record { info = info; rows = rows }))
-  untold-some info rows is none = seen-found None reads name (state_then now place) (Some info) info rows is refl tt none
+-- a table was found
+module _ (now : List TrailItem) (place : ℕ) (name : List ℕ) (reads : Bool) (info : TableInfo) (rows : List Found) (none : reads ≡ false → rows ≡ []) where
+  abbrev made : Seen
+  made = record { info = info; rows = rows }
 
-  pub truly-some : (info : TableInfo) (rows : List Found) → Some info ≡ info_then now place name → (reads ≡ false → rows ≡ []) → HasReadThen (book_of now) place reads info rows
-      → IsSeenThen (book_of now) place reads name (Some (record { info = info; rows = rows }))
-  truly-some info rows is none has = record {
-    book = has.book;
-    store = has.store;
-    moment = has.moment;
-    seen = seen-found (Some has.store) reads name (state_of (take place has.book)) (Some info) info rows
-        (named-then now place name (Some info) has.book has.moment.front has.moment.has is) refl has.read none;
-  }
+  pub some-bare : reads ≡ false → (seen : Seen) → Some made ≡ Some seen → seen.rows ≡ []
+  some-bare off seen at = let same : made ≡ seen = cc in ap (λ (s : Seen). s.rows) (sym same) ∙ none off
 
-  -- none was
-  pub untold-none : None ≡ info_then now place name → IsSeenOf None reads (state_then now place) (table_of_name name (state_then now place).tables) None
-  untold-none is = seen-none None reads name (state_then now place) None is refl
+  rows-by : (table : Table) → numbered (state_then now place).tables table.info.table.0 ≡ Some table → info ≡ table.info → (r : Bool) → reads ≡ r
+      → HasReadThen (book_of now) place r info rows → rows ≡ (if r then content_of table.writes else [])
+  rows-by table here same true off has =
+      let then_ = has refl in
+      let number : then_.table.info.table.0 ≡ table.info.table.0 = ap (λ (i : TableInfo). i.table.0) (then_.info_is ∙ same) in
+      let one : then_.table ≡ table =
+      same_one (numbered (state_then now place).tables then_.table.info.table.0) then_.table table then_.here (ap (numbered (state_then now place).tables) number ∙ here) in
+      then_.rows_are ∙ ap (λ (t : Table). content_of t.writes) one
+  rows-by table here same false off has = none off
 
-  pub truly-none : None ≡ info_then now place name → HasMoment (book_of now) place → IsSeenThen (book_of now) place reads name None
-  truly-none is moment = record {
-    book = moment.0;
-    store = moment.1;
-    moment = moment.2;
-    seen = seen-none (Some moment.1) reads name (state_of (take place moment.0)) None
-        (named-then now place name None moment.0 moment.2.front moment.2.has is) refl;
-  }
+  seen-by : NumberedFrom 1 (state_then now place).tables → HasReadThen (book_of now) place reads info rows → (o : Option Table)
+      → table_of_name name (state_then now place).tables ≡ o → Some info ≡ option_map info_in o → Some made ≡ option_map (seen_with reads) o
+  seen-by order has None at e = cc
+  seen-by order has (Some table) at e =
+      let same : info ≡ table.info = cc in
+      let rows_are : rows ≡ (if reads then content_of table.writes else []) =
+      rows-by table (named-numbered name (state_then now place).tables table order at) same reads refl has in
+      (λ i. Some (record { info = same i; rows = rows_are i }))
 
--- rows that were read, and rows that weren't
-pub read-then : (now : List Entry) (place : ℕ) (reads : Bool) (info : TableInfo) (rows : List Found) → HasRowsThen now place info rows → HasReadThen now place reads info rows
-read-then now place reads info rows has = record { book = has.book; store = has.store; moment = has.moment; read = λ _. has.are }
+  pub some-truly : NumberedFrom 1 (state_then now place).tables → HasReadThen (book_of now) place reads info rows → Some info ≡ info_then now place name
+      → Some made ≡ option_map (seen_with reads) (table_of_name name (state_then now place).tables)
+  some-truly order has is = seen-by order has (table_of_name name (state_then now place).tables) refl is
 
-pub unread-then : (now : List Entry) (place : ℕ) (reads : Bool) (info : TableInfo) (rows : List Found) → reads ≡ false → HasMoment now place → HasReadThen now place reads info rows
-unread-then now place reads info rows none moment = record {
-  book = moment.0;
-  store = moment.1;
-  moment = moment.2;
-  read = λ some. let never : true ≡ false = sym some ∙ none in cc;
-}
+-- none was
+pub none-bare : (seen : Seen) → None ≡ Some seen → seen.rows ≡ []
+none-bare seen at = cc
+
+pub none-truly : (reads : Bool) (o : Option Table) → None ≡ option_map info_in o → None ≡ option_map (seen_with reads) o
+none-truly reads None e = refl
+none-truly reads (Some table) e = cc

@@ -1,5 +1,5 @@
 -- What is counted of files that are read, and what is told where they don't have as many records as commits say.
-use Rattle.std.specs.Prelude.{◌≡◌, ◌⊎◌, ℕ, Bool, Option, Some, List, [], ◌∷◌, length, map}
+use Rattle.std.specs.Prelude.{◌≡◌, ◌⊎◌, ℕ, Bool, Option, List, [], ◌∷◌, length, map}
 use Rattle.std.specs.List.{AllByRecursion}
 use Rattle.hv_base.specs.Told.{Tells}
 use Rattle.hv_shelf.specs.declared.place.Place.{Place}
@@ -7,9 +7,6 @@ use Rattle.hv_shelf.specs.Disk.{Store, Tree}
 use Rattle.hv_logic.specs.declared.catalog.TableInfo.{TableInfo}
 use Rattle.hv_wids.specs.WriteIds.{WriteIds}
 use Rattle.hv_history.specs.declared.entry.FilePlace.{FilePlace}
-use Rattle.hv_history.specs.declared.state.Table.{Table}
-use Rattle.hv_history.specs.State.{State}
-use Rattle.hv_stands.specs.Reading.{table_of_name}
 use Rattle.hv_choosing.specs.declared.listing.DirFile.{DirFile}
 use Rattle.hv_rowfile.specs.declared.record.Rec.{Rec}
 use Rattle.hv_rowfile.specs.Layout.{file_spelling}
@@ -17,12 +14,11 @@ use Rattle.hv_table_rows.specs.Reading.{Sheet, sheet_file, IsSheet, Reads, IsSpo
 use Rattle.hv_table_rows.specs.Damage.{told_place, IsOneDamaged}
 use Rattle.hv_law_dues.specs.hv_counts.specs.declared.counted.Counted.{Counted}
 use Rattle.hv_law_dues.specs.hv_counts.specs.declared.due.Due.{Due}
-use Rattle.hv_law_dues.specs.hv_counts.specs.Counts.{AreOwn, IsCounted, dues_in}
+use Rattle.hv_law_dues.specs.hv_counts.specs.Counts.{AreOwn, IsCounted}
 use Rattle.hv_law_dues.specs.hv_counts.specs.Miscounts.{counted_of, IsMiscounted}
 use Rattle.hv_law_dues.specs.hv_counts.specs.Files.{IsUncounted}
 use Rattle.hv_table_reader.specs.declared.fault.RowFault.{RowFault}
 use Rattle.hv_table_reader.specs.declared.fault.RowFault.TheVariants as fault
-use Rattle.hv_acts.specs.hv_telling.specs.hv_house.specs.Seeing.{ids_in}
 
 -- how many records a file of a kind has, and how many bytes
 abbrev pub counted_at : Bool → Place → List Rec → Counted
@@ -42,37 +38,38 @@ TellsUncounted deletes table dues sheets (fault.Damaged told) =
     (place : Place) × (told ≡ told_place place told.at) × IsMiscounted deletes table dues sheets place told.at
 TellsUncounted deletes table dues sheets (fault.House why) = Unit {0}
 
--- ---- the files of a kind that are taken
+-- ---- the files of a kind that are taken, beside those of the rows
 
 -- they were read, and have as many records as commits say
-pub record HasKindCounts (deletes : Bool) (files : Tree) (taken : List DirFile) (dues : List Due) : Type 0 where
+pub record HasKindCounts (deletes : Bool) (files : Tree) (taken beside : List DirFile) (dues : List Due) : Type 0 where
   pub sheets : List Sheet
   pub files_are : map sheet_file sheets ≡ taken
   pub each : AllByRecursion (IsSheet deletes files) sheets
-  pub counted : AreOwn taken → IsCounted deletes dues sheets
+  pub counted : AreOwn taken → AreOwn beside → IsCounted deletes dues sheets
 
 -- they were read and haven't, and it is what is told of them
-pub record IsKindUncounted (deletes : Bool) (table : ℕ) (files : Tree) (taken : List DirFile) (dues : List Due) (told : FilePlace) : Type 0 where
+pub record IsKindUncounted (deletes : Bool) (table : ℕ) (files : Tree) (taken beside : List DirFile) (dues : List Due)
+    (told : FilePlace) : Type 0 where
   pub sheets : List Sheet
   pub files_are : map sheet_file sheets ≡ taken
   pub each : AllByRecursion (IsSheet deletes files) sheets
+  pub own : AreOwn beside
   pub place : Place
   pub place_is : told ≡ told_place place told.at
   pub miscounted : IsMiscounted deletes table dues sheets place told.at
 
+-- where damage is told of counts, those of the rows stand in own directories
+abbrev pub AreOwnBeside : List DirFile → RowFault → Type 0
+AreOwnBeside beside (fault.Damaged told) = AreOwn beside
+AreOwnBeside beside (fault.House why) = Unit {0}
+
 -- where damage is told, one of them doesn't stand, or they don't have as many records
-abbrev pub TellsKind : Bool → ℕ → Tree → List DirFile → List Due → RowFault → Type 0
-TellsKind deletes table files taken dues (fault.Damaged told) = IsOneDamaged deletes files taken told ⊎ IsKindUncounted deletes table files taken dues told
-TellsKind deletes table files taken dues (fault.House why) = Unit {0}
+abbrev pub TellsKind : Bool → ℕ → Tree → List DirFile → List DirFile → List Due → RowFault → Type 0
+TellsKind deletes table files taken beside dues (fault.Damaged told) =
+    IsOneDamaged deletes files taken told ⊎ IsKindUncounted deletes table files taken beside dues told
+TellsKind deletes table files taken beside dues (fault.House why) = Unit {0}
 
 -- ---- the files of a table that are read
 
 abbrev pub IsAmissOf : TableInfo → WriteIds → Tree → List Due → Type 0
 IsAmissOf info list files dues = IsSpoiledOf info list files ⊎ IsUncounted info list files dues
-
--- of a table that is found by a name, a file doesn't stand, or the files don't have as many records as its commits say
-pub record IsAmiss (told : Option Store) (state : State) : Type 0 where
-  pub name : List ℕ
-  pub table : Table
-  pub named : table_of_name name state.tables ≡ Some table
-  pub amiss : Tells told (λ s. IsAmissOf table.info (ids_in state table.info.table.0) s.tree (dues_in state table.info.table.0))

@@ -1,27 +1,28 @@
--- Files that are read by several acts: of a told house each has, whenever it is got, the bytes that it had when it was listed.
-use Rattle.std.specs.Prelude.{◌≡◌, ℕ, ◌<◌, ◌≤◌, Bool, Option, Some, List, length, take}
+-- Files that are read by several acts: of a told house each has, whenever it is got for an open transaction, the bytes that it had when it was
+-- listed; and so their rows are those that stood in the table.
+use Rattle.std.specs.Prelude.{◌≡◌, ℕ, ◌≤◌, Bool, true, Option, Some, List, length, take}
 use Rattle.std.specs.Global.{Vec}
 use Rattle.std.specs.Option.{option_map}
 use Rattle.std.specs.FinMap as tree
 use Rattle.hv_base.specs.Told.{Tells}
+use Rattle.hv_base.specs.declared.ids.TxnId.{TxnId}
 use Rattle.hv_shelf.specs.declared.place.Place.{Place}
 use Rattle.hv_shelf.specs.Disk.{Store}
-use Rattle.hv_dirs.specs.Names.{write_end}
 use Rattle.hv_logic.specs.declared.catalog.TableInfo.{TableInfo}
 use Rattle.hv_logic.specs.declared.effect.Found.{Found}
 use Rattle.hv_choosing.specs.declared.listing.DirFile.{DirFile}
 use Rattle.hv_law_visible.specs.Members.{IsIn}
+use Rattle.hv_acts.specs.hv_telling.specs.hv_house.specs.hv_law_read.specs.Reading.{ReadsAt}
 use Rattle.hv_history.specs.declared.entry.Entry.{Entry}
-use Rattle.hv_history.specs.State.{state_of}
+use Rattle.hv_history.specs.declared.state.Table.{Table}
+use Rattle.hv_history.specs.State.{state_of, numbered, content_of}
+use Rattle.hv_history.specs.Legal.{profile, IsLegal}
 use Rattle.hv_history.specs.Lasting.{IsFront}
-use Rattle.hv_stands.specs.Reading.{table_of_name}
-use Rattle.hv_table_rows.specs.Reading.{AreRows}
 use Rattle.hv_trail.specs.declared.trail.TrailItem.{TrailItem}
 use Rattle.hv_trail.specs.Steps.{HouseSeen}
 use Rattle.hv_acts.specs.hv_telling.specs.hv_house.specs.declared.listing.Listing.{Listing}
-use Rattle.hv_acts.specs.hv_telling.specs.hv_house.specs.House.{IsFaithful}
-use Rattle.hv_acts.specs.hv_telling.specs.hv_house.specs.Listing.{info_in, AreTaken}
-use Rattle.hv_acts.specs.hv_telling.specs.hv_house.specs.Seeing.{ids_in, AreRead}
+use Rattle.hv_acts.specs.hv_telling.specs.hv_house.specs.Listing.{AreTaken}
+use Rattle.hv_acts.specs.hv_telling.specs.hv_house.specs.Seeing.{ids_in}
 use Rattle.hv_acts.specs.declared.told.ToldHouse.{ToldHouse}
 use Rattle.hv_acts.specs.Told.{seen_in, book_in}
 use Rattle.hv_acts.specs.Reading.{HasGot, HasMissed, info_then}
@@ -32,29 +33,22 @@ pub record GoesBehind {D : Type 0} (before now : HouseSeen D) : Type 0 where
   pub start : now.start ≡ before.start
   pub front : IsFront before.trail now.trail
 
--- Behind that house, whoever gets the file at this place gets the bytes that it has in this store, where one is told, and never misses it.
-pub record IsSteady {D : Type 0} (told : D → Option Store) (o : Option Store) (before : HouseSeen D) (place : Place) : Type 0 where
-  pub got : (now : HouseSeen D) (bytes : List ℕ) → GoesBehind before now → HasGot told now place bytes → Tells o (λ s. tree.get s.tree place ≡ Some bytes)
-  pub unmissed : (now : HouseSeen D) → GoesBehind before now → HasMissed told now place → Tells o (λ s. ⊥)
+-- Behind that house, where the file at this place is got for the transaction it has the bytes that it has in this store, where one is told, and
+-- it is never missed.
+pub record IsSteady {D : Type 0} (told : D → Option Store) (o : Option Store) (by : TxnId) (before : HouseSeen D)
+    (place : Place) : Type 0 where
+  pub got : (now : HouseSeen D) (bytes : List ℕ) → GoesBehind before now → HasGot told now by place bytes
+      → Tells o (λ s. tree.get s.tree place ≡ Some bytes)
+  pub unmissed : (now : HouseSeen D) → GoesBehind before now → HasMissed told now by place → Tells o (λ s. ⊥)
 
-abbrev pub AreSteady : {D : Type 0} → (D → Option Store) → Option Store → HouseSeen D → List DirFile → Type 0
-AreSteady told o before taken = (file : DirFile) → IsIn file taken → IsSteady told o before file.place
+abbrev pub AreSteady : {D : Type 0} → (D → Option Store) → Option Store → TxnId → HouseSeen D → List DirFile → Type 0
+AreSteady told o by before taken = (file : DirFile) → IsIn file taken → IsSteady told o by before file.place
 
 -- the bytes that were got
 abbrev pub bytes_got : Option (Vec ℕ) → Option (List ℕ)
 bytes_got found = option_map (λ (bytes : Vec ℕ). bytes.items) found
 
--- ---- a moment of a told house
-
--- At some moment its store had the files of this book, which had that place.
-pub record IsMoment (now : List Entry) (place : ℕ) (book : List Entry) (store : Store) : Type 0 where
-  pub faithful : IsFaithful book store
-  pub few : length book < write_end
-  pub front : IsFront book now
-  pub has : place ≤ length book
-
-abbrev pub HasMoment : List Entry → ℕ → Type 0
-HasMoment now place = (book : List Entry) × (store : Store) × IsMoment now place book store
+-- ---- files that were listed
 
 -- a table of that name was there at the place, with this description
 pub record IsNamedThen (trail : List TrailItem) (place : ℕ) (info : TableInfo) : Type 0 where
@@ -62,31 +56,36 @@ pub record IsNamedThen (trail : List TrailItem) (place : ℕ) (info : TableInfo)
   pub named : Some info ≡ info_then trail place name
 
 -- these of its files are taken in this store, where one is told, and are got with the bytes that they have in it
-pub record AreListedSteady {D : Type 0} (told : D → Option Store) (o : Option Store) (before : HouseSeen D) (info : TableInfo) (listing : Listing) : Type 0 where
+pub record AreListedSteady {D : Type 0} (told : D → Option Store) (o : Option Store) (by : TxnId) (before : HouseSeen D)
+    (info : TableInfo) (listing : Listing) : Type 0 where
   pub taken : Tells o (λ s. AreTaken info.table listing.list s.tree listing.inserts.items listing.deletes.items)
-  pub inserts : AreSteady told o before listing.inserts.items
-  pub deletes : AreSteady told o before listing.deletes.items
+  pub inserts : AreSteady told o by before listing.inserts.items
+  pub deletes : AreSteady told o by before listing.deletes.items
 
--- its files were listed then, and are got with the bytes that they had
-pub record IsListing {D : Type 0} (told : D → Option Store) (now : ToldHouse D) (place : ℕ) (info : TableInfo) (listing : Listing) : Type 0 where
+-- At some moment the house's book was this one, which is legal and had that place, its files stood in this store, and the transaction read the
+-- table. The table's files were listed then, and are got with the bytes that they had.
+pub record IsListing {D : Type 0} (told : D → Option Store) (now : ToldHouse D) (by : TxnId) (place : ℕ)
+    (info : TableInfo) (listing : Listing) : Type 0 where
   pub book : List Entry
   pub store : Store
-  pub moment : IsMoment (book_in now) place book store
-  pub name : List ℕ
-  pub named : Some info ≡ option_map info_in (table_of_name name (state_of (take place book)).tables)
+  pub legal : IsLegal profile book
+  pub front : IsFront book (book_in now)
+  pub has : place ≤ length book
+  pub table : Table
+  pub info_is : table.info ≡ info
+  pub reads : ReadsAt book by.0 place table store.tree
   pub list : listing.list ≡ ids_in (state_of (take place book)) info.table.0
-  pub files : AreListedSteady told (Some store) (seen_in now) info listing
+  pub files : AreListedSteady told (Some store) by (seen_in now) info listing
 
--- these are its rows then
+-- ---- rows
+
+-- they are those that stood at the place in the table of this description
 pub record HasRowsThen (now : List Entry) (place : ℕ) (info : TableInfo) (rows : List Found) : Type 0 where
-  pub book : List Entry
-  pub store : Store
-  pub moment : IsMoment now place book store
-  pub are : AreRows info (ids_in (state_of (take place book)) info.table.0) store.tree rows
+  pub table : Table
+  pub here : numbered (state_of (take place now)).tables table.info.table.0 ≡ Some table
+  pub info_is : table.info ≡ info
+  pub rows_are : rows ≡ content_of table.writes
 
 -- where they are to be read
-pub record HasReadThen (now : List Entry) (place : ℕ) (reads : Bool) (info : TableInfo) (rows : List Found) : Type 0 where
-  pub book : List Entry
-  pub store : Store
-  pub moment : IsMoment now place book store
-  pub read : AreRead reads info (ids_in (state_of (take place book)) info.table.0) rows store
+abbrev pub HasReadThen : List Entry → ℕ → Bool → TableInfo → List Found → Type 0
+HasReadThen now place reads info rows = reads ≡ true → HasRowsThen now place info rows

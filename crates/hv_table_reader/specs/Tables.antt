@@ -1,32 +1,41 @@
 -- What is seen of a table by several acts, whatever others do between; and what these acts leave.
 -- Source: Hive Transactions; that each act is one hold of the house is this project's profile.
-use Rattle.std.specs.Prelude.{◌⊎◌, ℕ, ◌<◌, ◌≤◌, Bool, Option, Some, None, List, [], take, Result, Ok, IfOk, IfErr}
+use Rattle.std.specs.Prelude.{◌≡◌, ◌⊎◌, ℕ, ◌<◌, ◌≤◌, Bool, false, if◌then◌else◌, Option, Some, None, List, [], Result, Ok, Err, IfOk, IfErr}
+use Rattle.std.specs.Global.{Vec}
+use Rattle.std.specs.Option.{option_map}
 use Rattle.hv_base.specs.declared.ids.TxnId.{TxnId}
 use Rattle.hv_shelf.specs.Disk.{Store}
 use Rattle.hv_logic.specs.declared.seen.Seen.{Seen}
-use Rattle.hv_history.specs.declared.entry.Entry.{Entry}
+use Rattle.hv_history.specs.hv_meaning.specs.Meaning.{info_of}
 use Rattle.hv_history.specs.declared.entry.Cause.TheVariants as cause
-use Rattle.hv_history.specs.State.{state_of}
+use Rattle.hv_history.specs.declared.state.Table.{Table}
+use Rattle.hv_history.specs.State.{content_of}
 use Rattle.hv_stands.specs.Reading.{table_of_name}
 use Rattle.hv_trail.specs.declared.trail.TrailItem.{TrailItem}
+use Rattle.hv_acts.specs.hv_telling.specs.hv_house.specs.declared.fault.HouseFault.{HouseFault}
 use Rattle.hv_acts.specs.hv_telling.specs.hv_house.specs.declared.fault.HouseFault.TheVariants as house_fault
+use Rattle.hv_acts.specs.hv_telling.specs.hv_house.specs.declared.listing.GetFault.{GetFault}
+use Rattle.hv_acts.specs.hv_telling.specs.hv_house.specs.declared.listing.GetFault.TheVariants as get_fault
 use Rattle.hv_table_reader.specs.declared.fault.RowFault.{RowFault}
 use Rattle.hv_table_reader.specs.declared.fault.RowFault.TheVariants as row_fault
-use Rattle.hv_acts.specs.hv_telling.specs.hv_house.specs.Seeing.{IsSeenOf}
+use Rattle.hv_acts.specs.hv_telling.specs.hv_house.specs.Listing.{info_in}
 use Rattle.hv_acts.specs.hv_telling.specs.Telling.{IsToldHouse}
 use Rattle.hv_acts.specs.declared.told.ToldHouse.{ToldHouse}
-use Rattle.hv_acts.specs.Told.{trail_in, book_in}
+use Rattle.hv_acts.specs.declared.fault.ActFault.{ActFault}
+use Rattle.hv_acts.specs.declared.fault.ActFault.TheVariants as act_fault
+use Rattle.hv_acts.specs.Told.{trail_in}
 use Rattle.hv_acts.specs.Answers.{HasItsMark}
 use Rattle.hv_acts.specs.Reading.{state_then}
 use Rattle.hv_acts.specs.Going.{faults_in, IsOpenHouse, AddsOwn, IsShutBetween, IsShutNow}
-use Rattle.hv_table_reader.specs.Steady.{IsMoment}
 use Rattle.hv_actor.specs.Acting.{Setting, Moment}
 
 -- ---- what the acts leave
 
 -- behind a fault of the store the run stops, and behind any other the house is open
-abbrev pub LeavesSeeing : {D : Type 0} → (D → Option Store) → (ToldHouse D → ToldHouse D → Type 0) → ℕ → ToldHouse D → RowFault → Type 0
-LeavesSeeing told meanwhile txn now (row_fault.House house_fault.Store) = IsShutBetween meanwhile ⊎ IsShutNow told txn now
+abbrev pub LeavesSeeing : {D : Type 0} → (D → Option Store) → (ToldHouse D → ToldHouse D → Type 0) → ℕ → ToldHouse D
+    → RowFault → Type 0
+LeavesSeeing told meanwhile txn now (row_fault.House house_fault.Store) = IsShutBetween meanwhile
+    ⊎ IsShutNow told txn now
 LeavesSeeing told meanwhile txn now (row_fault.House house_fault.NoMemory) = IsOpenHouse now
 LeavesSeeing told meanwhile txn now (row_fault.House (house_fault.Failed count)) = IsOpenHouse now
 LeavesSeeing told meanwhile txn now (row_fault.Damaged place) = IsOpenHouse now
@@ -64,16 +73,37 @@ abbrev pub IsOfHouse : RowFault → Type 0
 IsOfHouse (row_fault.House why) = Unit {0}
 IsOfHouse (row_fault.Damaged place) = ⊥
 
+-- what an act that lists answers, that or no listing at all
+abbrev pub IsListFault : ActFault → Type 0
+IsListFault (act_fault.Ended at) = Unit {0}
+IsListFault (act_fault.Full entries) = ⊥
+IsListFault (act_fault.Held holder) = ⊥
+IsListFault (act_fault.Broken put count) = ⊥
+IsListFault act_fault.Unfit = ⊥
+IsListFault (act_fault.House why) = Unit {0}
+
+-- for a transaction that has ended nothing more is read, which counts as want of memory
+abbrev pub fault_of : ActFault → HouseFault
+fault_of (act_fault.House why) = why
+fault_of why = house_fault.NoMemory
+
+-- so too of a file; that nothing stands there is an answer
+abbrev pub missed_as : GetFault → Result (Option (Vec ℕ)) RowFault
+missed_as (get_fault.NotOpen at) = Err (row_fault.House house_fault.NoMemory)
+missed_as get_fault.NotFound = Ok None
+missed_as (get_fault.House why) = Err (row_fault.House why)
+
 -- ---- what is seen
 
--- the table of that name as it stood at a place, with the rows that its files held at some moment, where they are to be read
-pub record IsSeenThen (now : List Entry) (place : ℕ) (reads : Bool) (name : List ℕ) (found : Option Seen) : Type 0 where
-  pub book : List Entry
-  pub store : Store
-  pub moment : IsMoment now place book store
-  pub seen : IsSeenOf (Some store) reads (state_of (take place book)) (table_of_name name (state_of (take place book)).tables) found
+-- a table with the rows that stand in it, where they are to be read
+abbrev pub seen_with : Bool → Table → Seen
+seen_with reads table = record { info = table.info; rows = if reads then content_of table.writes else [] }
 
--- The table of that name as it stood at a place is seen. In a told house its rows are those of its files.
-pub record IsSeenIn {D : Type 0} (told : D → Option Store) (now : ToldHouse D) (place : ℕ) (reads : Bool) (name : List ℕ) (found : Option Seen) : Type 0 where
-  pub untold : IsSeenOf None reads (state_then (trail_in now) place) (table_of_name name (state_then (trail_in now) place).tables) found
-  pub truly : IsToldHouse told now.house → IsSeenThen (book_in now) place reads name found
+-- The table of that name is seen as it stood at a place, with its description, and without rows where none are to be read. In a told house its
+-- rows are those that stood in it there.
+pub record IsSeenIn {D : Type 0} (told : D → Option Store) (now : ToldHouse D) (place : ℕ) (reads : Bool)
+    (name : List ℕ) (found : Option Seen) : Type 0 where
+  pub info : option_map info_of found ≡ option_map info_in (table_of_name name (state_then (trail_in now) place).tables)
+  pub bare : reads ≡ false → (seen : Seen) → found ≡ Some seen → seen.rows ≡ []
+  pub truly : IsToldHouse told now.house → found ≡ option_map (seen_with reads)
+      (table_of_name name (state_then (trail_in now) place).tables)

@@ -11,13 +11,13 @@ ghost use Rattle.hv_law_dues.specs.hv_counts.specs.Counts.{dues_in};
 ghost use Rattle.hv_acts.specs.hv_telling.specs.hv_house.specs.declared.fault.HouseFault.{HouseFault};
 ghost use Rattle.hv_table_reader.specs.declared.fault.RowFault.TheVariants as row_fault;
 ghost use Rattle.hv_acts.specs.declared.fault.ActFault.TheVariants as act_fault;
-ghost use Rattle.hv_acts.specs.Told.{seen_in, trail_in, book_in};
+ghost use Rattle.hv_acts.specs.Told.{seen_in, trail_in};
 ghost use Rattle.hv_acts.specs.Counting.{AreAsMany};
 ghost use Rattle.hv_acts.specs.Going.{IsOpenHouse};
-ghost use Rattle.hv_acts.specs.Reading.{HasPlace, HasFittingBook, info_then, state_then};
+ghost use Rattle.hv_acts.specs.Reading.{HasPlace, HasFittingBook, ReadsTable, info_then, state_then};
 ghost use Rattle.hv_acts.specs.Reading as acts;
-ghost use Rattle.hv_table_reader.specs.Tables.{LooksOver, IsOfHouse};
-ghost use Rattle.hv_table_reader.specs.Steady.{IsSteady, bytes_got, HasMoment, IsNamedThen, IsListing};
+ghost use Rattle.hv_table_reader.specs.Tables.{LooksOver, IsOfHouse, IsListFault, fault_of, missed_as};
+ghost use Rattle.hv_table_reader.specs.Steady.{IsSteady, bytes_got, IsNamedThen, IsListing};
 ghost use Rattle.hv_actor.specs.Acting.{among, known};
 
 use crate::fault::RowFault;
@@ -47,6 +47,33 @@ fn of_house(why: ActFault) -> RowFault
     }
 }
 
+/// What the house answered to an act that lists. For a transaction that has ended nothing more is read, and its abort tells why: here that
+/// counts as want of memory.
+fn of_listing(why: ActFault) -> RowFault
+    requires lists { IsListFault why }
+    ensures fault { result ≡ row_fault.House (fault_of why) }
+{
+    match why {
+        ActFault::House(fault) => RowFault::House(fault),
+        ActFault::Ended { .. } => RowFault::House(HouseFault::NoMemory),
+        ActFault::Full { .. } | ActFault::Held { .. } | ActFault::Broken { .. } | ActFault::Unfit =>
+            unreachable!(),
+    }
+}
+
+/// What the house answered to an act that got no file: that nothing stands there, or why. For a transaction that has ended it counts as want
+/// of memory, as of one that lists.
+fn not_got(why: GetFault) -> Result<Option<Vec<u8>>, RowFault>
+    ensures missed { result ≡ missed_as why }
+    ensures house { IfErr result IsOfHouse }
+{
+    match why {
+        GetFault::NotOpen { .. } => Err(RowFault::House(HouseFault::NoMemory)),
+        GetFault::NotFound => Ok(None),
+        GetFault::House(fault) => Err(RowFault::House(fault)),
+    }
+}
+
 /// Finds the table of a name as it stood at a place of the book.
 pub fn find_table<D: Shelf + Drop, W: Actor<D, ToldHouse<D>>>(
     alloc: Global,
@@ -63,8 +90,6 @@ pub fn find_table<D: Shelf + Drop, W: Actor<D, ToldHouse<D>>>(
     ensures house { IfErr result IsOfHouse }
     ensures book { IfOk result (λ found. HasFittingBook (trail_in (W.house actor.new))) }
     ensures found { IfOk result (λ found. found ≡ info_then (trail_in (W.house actor.new)) place name.now) }
-    ensures moment { IsToldHouse D.told (W.house actor.old).house
-        → IfOk result (λ found. HasMoment (book_in (W.house actor.new)) place) }
 {
     match actor.hold(alloc, FindTable { place, name }) {
         Ok(found) => Ok(found),
@@ -72,7 +97,7 @@ pub fn find_table<D: Shelf + Drop, W: Actor<D, ToldHouse<D>>>(
     }
 }
 
-/// Lists the files of a table that are taken under the list that it had at a place of the book.
+/// Lists, for a transaction, the files of a table that are taken under the list that it had at the place of the transaction's snapshot.
 pub fn list_table<D: Shelf + Drop, W: Actor<D, ToldHouse<D>>>(
     alloc: Global,
     actor: &mut W,
@@ -82,19 +107,19 @@ pub fn list_table<D: Shelf + Drop, W: Actor<D, ToldHouse<D>>>(
 ) -> Result<Listing, RowFault>
     requires keeps { W.keeps actor.old }
     requires running { IsOpenHouse (W.house actor.old) }
-    requires place { HasPlace (trail_in (W.house actor.old)) place }
+    requires reads { ReadsTable (trail_in (W.house actor.old)) by place info.now.table.0 }
     requires named { IsNamedThen (trail_in (W.house actor.old)) place info.now }
     ensures keeps { W.keeps actor.new }
     ensures looks { LooksOver (among D.told D.faults W.between W.meanwhile) by
         (known (W.own actor.old) (W.house actor.old)) (known (W.own actor.new) (W.house actor.new)) result }
     ensures house { IfErr result IsOfHouse }
     ensures listed { IsToldHouse D.told (W.house actor.old).house
-        → IfOk result (IsListing D.told (W.house actor.new) place info.now) }
+        → IfOk result (IsListing D.told (W.house actor.new) by place info.now) }
 {
     let table = info.table;
     match actor.hold(alloc, ListTable { by, place, table }) {
         Ok(listing) => Ok(listing),
-        Err(why) => Err(of_house(why)),
+        Err(why) => Err(of_listing(why)),
     }
 }
 
@@ -135,7 +160,8 @@ pub fn show_book<D: Shelf + Drop, W: Actor<D, ToldHouse<D>>>(
     ensures looks { (by : TxnId) → LooksOver (among D.told D.faults W.between W.meanwhile) by
         (known (W.own actor.old) (W.house actor.old)) (known (W.own actor.new) (W.house actor.new)) result }
     ensures house { IfErr result IsOfHouse }
-    ensures shown { IfOk result (λ shown. shown ≡ show_listed (state_then (trail_in (W.house actor.new)) place) what.now) }
+    ensures shown { IfOk result (λ shown. shown ≡ show_listed (state_then (trail_in (W.house actor.new)) place)
+        what.now) }
 {
     match actor.hold(alloc, ShowBook { place, what }) {
         Ok(shown) => Ok(shown),
@@ -143,7 +169,7 @@ pub fn show_book<D: Shelf + Drop, W: Actor<D, ToldHouse<D>>>(
     }
 }
 
-/// Gets the bytes of the file at a place; None where nothing stands there.
+/// Gets, for a transaction, the bytes of the file at a place; None where nothing stands there.
 pub fn get_file<D: Shelf + Drop, W: Actor<D, ToldHouse<D>>>(
     alloc: Global,
     actor: &mut W,
@@ -156,12 +182,11 @@ pub fn get_file<D: Shelf + Drop, W: Actor<D, ToldHouse<D>>>(
     ensures looks { LooksOver (among D.told D.faults W.between W.meanwhile) by
         (known (W.own actor.old) (W.house actor.old)) (known (W.own actor.new) (W.house actor.new)) result }
     ensures house { IfErr result IsOfHouse }
-    ensures got { (o : Option Store) → IsSteady D.told o (seen_in (W.house actor.old)) place.now
+    ensures got { (o : Option Store) → IsSteady D.told o by (seen_in (W.house actor.old)) place.now
         → IfOk result (λ found. Tells o (λ s. tree.get s.tree place.now ≡ bytes_got found)) }
 {
     match actor.hold(alloc, GetFile { by, place }) {
         Ok(bytes) => Ok(Some(bytes)),
-        Err(GetFault::NotFound) => Ok(None),
-        Err(GetFault::House(why)) => Err(RowFault::House(why)),
+        Err(why) => not_got(why),
     }
 }

@@ -11,7 +11,7 @@ ghost use Rattle.hv_acts.specs.hv_telling.specs.Telling.{IsToldHouse};
 ghost use Rattle.hv_acts.specs.Told.{seen_in, trail_in, book_in};
 ghost use Rattle.hv_acts.specs.Counting.{AreAsMany};
 ghost use Rattle.hv_acts.specs.Going.{IsOpenHouse};
-ghost use Rattle.hv_acts.specs.Reading.{HasPlace};
+ghost use Rattle.hv_acts.specs.Reading.{ReadsTable};
 ghost use Rattle.hv_table_reader.specs.Counting.{counted_at, CountsUpTo, HasKindCounts, TellsKind, IsAmissOf};
 ghost use Rattle.hv_table_reader.specs.Damage.{IsShortDamage, IsDamage, TellsFile, TellsOne};
 ghost use Rattle.hv_table_reader.specs.Tables.{LooksOver};
@@ -52,9 +52,9 @@ fn read_at<D: Shelf + Drop, W: Actor<D, ToldHouse<D>>>(
         ≡ counts.old.items ++ counted_at deletes place.now recs.items ∷ []) }
     ensures looks { LooksOver (among D.told D.faults W.between W.meanwhile) by
         (known (W.own actor.old) (W.house actor.old)) (known (W.own actor.new) (W.house actor.new)) result }
-    ensures recs { (o : Option Store) → IsSteady D.told o (seen_in (W.house actor.old)) place.now
+    ensures recs { (o : Option Store) → IsSteady D.told o by (seen_in (W.house actor.old)) place.now
         → IfOk result (λ recs. Tells o (λ s. HoldsAt s.tree place.now deletes span recs.items)) }
-    ensures damage { (o : Option Store) → IsSteady D.told o (seen_in (W.house actor.old)) place.now
+    ensures damage { (o : Option Store) → IsSteady D.told o by (seen_in (W.house actor.old)) place.now
         → IfErr result (λ fault. Tells o (λ s. TellsFile s.tree place.now deletes span fault)) }
     ensures short { IfErr result IsShortDamage }
 {
@@ -80,9 +80,9 @@ fn read_file<D: Shelf + Drop, W: Actor<D, ToldHouse<D>>>(
         ≡ counts.old.items ++ counted_at deletes file.now.place recs.items ∷ []) }
     ensures looks { LooksOver (among D.told D.faults W.between W.meanwhile) by
         (known (W.own actor.old) (W.house actor.old)) (known (W.own actor.new) (W.house actor.new)) result }
-    ensures recs { (o : Option Store) → IsSteady D.told o (seen_in (W.house actor.old)) file.now.place
+    ensures recs { (o : Option Store) → IsSteady D.told o by (seen_in (W.house actor.old)) file.now.place
         → IfOk result (λ recs. Tells o (λ s. HoldsAt s.tree file.now.place deletes (span_of file.now.dir) recs.items)) }
-    ensures damage { (o : Option Store) → IsSteady D.told o (seen_in (W.house actor.old)) file.now.place
+    ensures damage { (o : Option Store) → IsSteady D.told o by (seen_in (W.house actor.old)) file.now.place
         → IfErr result (λ fault. Tells o (λ s. TellsFile s.tree file.now.place deletes (span_of file.now.dir) fault)) }
     ensures short { IfErr result IsShortDamage }
 {
@@ -110,13 +110,13 @@ fn read_deleted<D: Shelf + Drop, W: Actor<D, ToldHouse<D>>>(
     requires running { IsOpenHouse (W.house actor.old) }
     requires none { counts.old.items ≡ [] }
     ensures keeps { W.keeps actor.new }
-    ensures counts { (o : Option Store) → AreSteady D.told o (seen_in (W.house actor.old)) taken.now
+    ensures counts { (o : Option Store) → AreSteady D.told o by (seen_in (W.house actor.old)) taken.now
         → IfOk result (λ _. CountsUpTo o true taken.now counts.new.items) }
     ensures looks { LooksOver (among D.told D.faults W.between W.meanwhile) by
         (known (W.own actor.old) (W.house actor.old)) (known (W.own actor.new) (W.house actor.new)) result }
-    ensures rows { (o : Option Store) → AreSteady D.told o (seen_in (W.house actor.old)) taken.now
+    ensures rows { (o : Option Store) → AreSteady D.told o by (seen_in (W.house actor.old)) taken.now
         → IfOk result (λ rows. Tells o (λ s. Reads true s.tree taken.now (deleted_in list.now) rows.items)) }
-    ensures damage { (o : Option Store) → AreSteady D.told o (seen_in (W.house actor.old)) taken.now
+    ensures damage { (o : Option Store) → AreSteady D.told o by (seen_in (W.house actor.old)) taken.now
         → IfErr result (λ fault. Tells o (λ s. TellsOne true s.tree taken.now fault)) }
     ensures short { IfErr result IsShortDamage }
 {
@@ -144,13 +144,14 @@ fn read_left<D: Shelf + Drop, W: Actor<D, ToldHouse<D>>>(
     requires none { counts.old.items ≡ [] }
     requires rising { IsSorted row_at_cmp gone.now }
     ensures keeps { W.keeps actor.new }
-    ensures counts { (o : Option Store) → AreSteady D.told o (seen_in (W.house actor.old)) taken.now
+    ensures counts { (o : Option Store) → AreSteady D.told o by (seen_in (W.house actor.old)) taken.now
         → IfOk result (λ _. CountsUpTo o false taken.now counts.new.items) }
     ensures looks { LooksOver (among D.told D.faults W.between W.meanwhile) by
         (known (W.own actor.old) (W.house actor.old)) (known (W.own actor.new) (W.house actor.new)) result }
-    ensures rows { (o : Option Store) → AreSteady D.told o (seen_in (W.house actor.old)) taken.now → IfOk result (λ rows.
+    ensures rows { (o : Option Store) → AreSteady D.told o by (seen_in (W.house actor.old)) taken.now
+        → IfOk result (λ rows.
         Tells o (λ s. Reads false s.tree taken.now (left_in list.now gone.now info.now.shape) rows.items)) }
-    ensures damage { (o : Option Store) → AreSteady D.told o (seen_in (W.house actor.old)) taken.now
+    ensures damage { (o : Option Store) → AreSteady D.told o by (seen_in (W.house actor.old)) taken.now
         → IfErr result (λ fault. Tells o (λ s. TellsOne false s.tree taken.now fault)) }
     ensures short { IfErr result IsShortDamage }
 {
@@ -165,7 +166,8 @@ fn read_left<D: Shelf + Drop, W: Actor<D, ToldHouse<D>>>(
     Ok(rows)
 }
 
-/// Where the rows stand that these files delete, by valid deleters, where the files have as many records as the commits say.
+/// Where the rows stand that these files delete, by valid deleters, where the files have as many records as the commits say. Beside them the
+/// files of the rows are taken.
 fn deleted_counted<D: Shelf + Drop, W: Actor<D, ToldHouse<D>>>(
     alloc: Global,
     actor: &mut W,
@@ -173,6 +175,7 @@ fn deleted_counted<D: Shelf + Drop, W: Actor<D, ToldHouse<D>>>(
     table: TableId,
     list: &WriteIdList,
     taken: &[DirFile],
+    beside: &[DirFile],
     dues: &[Due],
 ) -> Result<Vec<RowAt>, RowFault>
     requires keeps { W.keeps actor.old }
@@ -180,17 +183,17 @@ fn deleted_counted<D: Shelf + Drop, W: Actor<D, ToldHouse<D>>>(
     ensures keeps { W.keeps actor.new }
     ensures looks { LooksOver (among D.told D.faults W.between W.meanwhile) by
         (known (W.own actor.old) (W.house actor.old)) (known (W.own actor.new) (W.house actor.new)) result }
-    ensures rows { (o : Option Store) → AreSteady D.told o (seen_in (W.house actor.old)) taken.now
+    ensures rows { (o : Option Store) → AreSteady D.told o by (seen_in (W.house actor.old)) taken.now
         → IfOk result (λ rows. Tells o (λ s. Reads true s.tree taken.now (deleted_in list.now) rows.items)) }
-    ensures counted { (o : Option Store) → AreSteady D.told o (seen_in (W.house actor.old)) taken.now
-        → IfOk result (λ _. Tells o (λ s. HasKindCounts true s.tree taken.now dues.now)) }
-    ensures damage { (o : Option Store) → AreSteady D.told o (seen_in (W.house actor.old)) taken.now
-        → IfErr result (λ fault. Tells o (λ s. TellsKind true table.0 s.tree taken.now dues.now fault)) }
+    ensures counted { (o : Option Store) → AreSteady D.told o by (seen_in (W.house actor.old)) taken.now
+        → IfOk result (λ _. Tells o (λ s. HasKindCounts true s.tree taken.now beside.now dues.now)) }
+    ensures damage { (o : Option Store) → AreSteady D.told o by (seen_in (W.house actor.old)) taken.now
+        → IfErr result (λ fault. Tells o (λ s. TellsKind true table.0 s.tree taken.now beside.now dues.now fault)) }
     ensures short { IfErr result IsShortDamage }
 {
     let mut counts = Vec::new(alloc);
     let rows = read_deleted(alloc, actor, by, list, taken, &mut counts)?;
-    check_counts(alloc, true, table, taken, &counts, dues)?;
+    check_counts(alloc, true, table, taken, beside, &counts, dues)?;
     Ok(rows)
 }
 
@@ -212,17 +215,19 @@ fn left_counted<D: Shelf + Drop, W: Actor<D, ToldHouse<D>>>(
     ensures keeps { W.keeps actor.new }
     ensures looks { LooksOver (among D.told D.faults W.between W.meanwhile) by
         (known (W.own actor.old) (W.house actor.old)) (known (W.own actor.new) (W.house actor.new)) result }
-    ensures rows { (o : Option Store) → AreSteady D.told o (seen_in (W.house actor.old)) taken.now → IfOk result (λ rows.
+    ensures rows { (o : Option Store) → AreSteady D.told o by (seen_in (W.house actor.old)) taken.now
+        → IfOk result (λ rows.
         Tells o (λ s. Reads false s.tree taken.now (left_in list.now gone.now info.now.shape) rows.items)) }
-    ensures counted { (o : Option Store) → AreSteady D.told o (seen_in (W.house actor.old)) taken.now
-        → IfOk result (λ _. Tells o (λ s. HasKindCounts false s.tree taken.now dues.now)) }
-    ensures damage { (o : Option Store) → AreSteady D.told o (seen_in (W.house actor.old)) taken.now
-        → IfErr result (λ fault. Tells o (λ s. TellsKind false info.now.table.0 s.tree taken.now dues.now fault)) }
+    ensures counted { (o : Option Store) → AreSteady D.told o by (seen_in (W.house actor.old)) taken.now
+        → IfOk result (λ _. Tells o (λ s. HasKindCounts false s.tree taken.now taken.now dues.now)) }
+    ensures damage { (o : Option Store) → AreSteady D.told o by (seen_in (W.house actor.old)) taken.now
+        → IfErr result (λ fault. Tells o (λ s. TellsKind false info.now.table.0 s.tree taken.now taken.now dues.now
+        fault)) }
     ensures short { IfErr result IsShortDamage }
 {
     let mut counts = Vec::new(alloc);
     let rows = read_left(alloc, actor, by, info, list, taken, gone, &mut counts)?;
-    check_counts(alloc, false, info.table, taken, &counts, dues)?;
+    check_counts(alloc, false, info.table, taken, taken, &counts, dues)?;
     Ok(rows)
 }
 
@@ -241,27 +246,38 @@ fn read_listed<D: Shelf + Drop, W: Actor<D, ToldHouse<D>>>(
     ensures keeps { W.keeps actor.new }
     ensures looks { LooksOver (among D.told D.faults W.between W.meanwhile) by
         (known (W.own actor.old) (W.house actor.old)) (known (W.own actor.new) (W.house actor.new)) result }
-    ensures rows { (o : Option Store) → AreListedSteady D.told o (seen_in (W.house actor.old)) info.now listing.now
+    ensures rows { (o : Option Store) → AreListedSteady D.told o by (seen_in (W.house actor.old)) info.now listing.now
         → IfOk result (λ rows. Tells o (λ s. AreRows info.now listing.now.list s.tree rows.items)) }
-    ensures damage { (o : Option Store) (others : List Due) → AreListedSteady D.told o (seen_in (W.house actor.old)) info.now listing.now
+    ensures damage { (o : Option Store) (others : List Due)
+        → AreListedSteady D.told o by (seen_in (W.house actor.old)) info.now listing.now
         → AreAsMany dues.now others
         → IfErr result (λ why. IsDamage why → Tells o (λ s. IsAmissOf info.now listing.now.list s.tree others)) }
     ensures short { IfErr result IsShortDamage }
 {
     let list = &listing.list;
-    let gone = deleted_counted(alloc, actor, by, info.table, list, &listing.deletes, dues)?;
+    let gone = deleted_counted(
+        alloc,
+        actor,
+        by,
+        info.table,
+        list,
+        &listing.deletes,
+        &listing.inserts,
+        dues,
+    )?;
     let gone = rows_rising(gone)?;
     let rows = left_counted(alloc, actor, by, info, list, &listing.inserts, &gone, dues)?;
     Ok(once(alloc, rows)?)
 }
 
-/// The rows of a table that its files show under the list that its write ids had at a place of the book: those of the bases and deltas that
-/// are chosen in each partition whose write id is valid, without those that a chosen delete delta names with a valid deleter, by partition
-/// and identifier. The files are listed once and got one by one, each by an act.
+/// The rows of a table that its files show under the list that its write ids had at the place of the transaction's snapshot: those of the bases
+/// and deltas that are chosen in each partition whose write id is valid, without those that a chosen delete delta names with a valid deleter,
+/// by partition and identifier. The files are listed once and got one by one, each by an act. In a told house they are the rows that stood in
+/// the table there.
 ///
 /// # Errors
 /// `Damaged` where a file that is to be read doesn't stand, or isn't one of its kind, bucket and write ids, or where the files don't have as
-/// many records as the commits say. Else what the house answered.
+/// many records as the commits say. Want of memory where the transaction has ended. Else what the house answered.
 pub fn read_rows<D: Shelf + Drop, W: Actor<D, ToldHouse<D>>>(
     alloc: Global,
     actor: &mut W,
@@ -271,7 +287,7 @@ pub fn read_rows<D: Shelf + Drop, W: Actor<D, ToldHouse<D>>>(
 ) -> Result<Vec<Found>, RowFault>
     requires keeps { W.keeps actor.old }
     requires running { IsOpenHouse (W.house actor.old) }
-    requires place { HasPlace (trail_in (W.house actor.old)) place }
+    requires reads { ReadsTable (trail_in (W.house actor.old)) by place info.now.table.0 }
     requires named { IsNamedThen (trail_in (W.house actor.old)) place info.now }
     ensures keeps { W.keeps actor.new }
     ensures looks { LooksOver (among D.told D.faults W.between W.meanwhile) by

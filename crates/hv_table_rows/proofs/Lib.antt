@@ -7,5 +7,3 @@ pub mod OwnDirs
 pub mod TakenFiles
 pub mod Shown
 pub mod ReadContent
-pub mod Earlier
-pub mod StoredRows

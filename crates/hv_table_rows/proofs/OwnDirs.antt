@@ -1,5 +1,5 @@
 -- A directory whose name is that of an own one is it.
-use Rattle.std.proofs.Common.{◌≡◌, ℕ, ◌<◌, Bool, List, ◌++◌, sym, ◌∙◌}
+use Rattle.std.proofs.Common.{◌≡◌, ℕ, ◌<◌, Bool, List, sym, ◌∙◌}
 use Rattle.hv_dirs.specs.Names.{write_end}
 use Rattle.hv_dirs.proofs.NameLemmas.{own_rest, wide_rest, own-text, wide-text, kind-same, low-fits, base-first, own-first, base-delta, apart, own-not-wide}
 use Rattle.hv_stands.specs.Files.{own_dir}

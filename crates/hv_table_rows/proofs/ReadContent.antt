@@ -21,14 +21,13 @@ use Rattle.hv_choosing.specs.Dirs.{span_of}
 use Rattle.hv_choosing.specs.Listing.{AreListed}
 use Rattle.hv_choosing.specs.Taken.{files_taken}
 use Rattle.hv_stands.specs.Files.{records_of, HasRecords}
-use Rattle.hv_stands.specs.Laws.{HasItsFiles}
 use Rattle.hv_table_rows.specs.declared.row_at.RowAt.{RowAt}
 use Rattle.hv_table_rows.specs.Orders.{row_at_cmp}
 use Rattle.hv_stands.proofs.StandingRows.{found-total as found_total}
 use Rattle.hv_table_rows.specs.Amiss.{IsWithin}
 use Rattle.hv_table_rows.specs.Reading.{Sheet, sheet_file, IsSheet, founds_in, deleted_in, at_of, is_gone, left_of, AreRows, IsSpoiled}
 use Rattle.hv_table_rows.proofs.Members.{In, all-in, contained, in-kept, kept-in, any-in, in-any, in-sorted, sorted-in, in-map, map-in, in-flat, flat-in, same-rising, one-of-rising}
-use Rattle.hv_table_rows.proofs.Shown.{IsReadable, Shows, own-records, one-write, IsSheetOf, sheet-of, taken-file, file_of_row, has-sheet, here, founds-of, deleted-of}
+use Rattle.hv_table_rows.proofs.Shown.{IsReadable, Shows, own-records, one-write, IsSheetOf, sheet-of, taken-file, file_of_row, has-sheet, here, founds-of, deleted-of, HasItsFiles}
 
 same-cmp : (x y : Found) → row_at_cmp (at_of x) (at_of y) ≡ found_cmp x y
 unfolding row_at_cmp

@@ -20,9 +20,8 @@ use Rattle.hv_rowfile.specs.declared.record.Rec.{Rec}
 use Rattle.hv_rowfile.specs.Layout.{IsFile, file_spelling}
 use Rattle.hv_rowfile.proofs.Books.{file_one}
 use Rattle.hv_history.specs.declared.state.Written.{Written}
-use Rattle.hv_stands.specs.Files.{records_of, file_of, CanStand, own_dir, own_place, IsSaid}
+use Rattle.hv_stands.specs.Files.{records_of, file_of, CanStand, HasRecords, own_dir, own_place, IsSaid}
 use Rattle.hv_stands.specs.Sound.{HasOther, AreApart}
-use Rattle.hv_stands.specs.Laws.{HasItsFiles}
 use Rattle.hv_shelf.specs.declared.place.Place.{Place}
 use Rattle.hv_wids.specs.WriteIds.{WriteIds, is_valid}
 use Rattle.hv_dirs.specs.Names.{write_end, statement_end}
@@ -45,6 +44,13 @@ use Rattle.hv_table_rows.proofs.OwnDirs.{own-named}
 use Rattle.hv_table_rows.proofs.TakenFiles.{place-there, there-place}
 
 -- ---- what is known of a table's commits and its files
+
+-- a commit's files stand, of every kind, partition and bucket; and the texts of its partitions say its rows
+pub record HasItsFiles (files : Tree) (number : ℕ) (shape : Shape) (written : Written) : Type 0 where
+  pub each : (deletes : Bool) (partition : List ℕ) (bucket : ℕ)
+      → HasRecords deletes bucket (records_of shape deletes partition bucket written)
+      (tree.get files (own_place number partition deletes written.write bucket))
+  pub said : AllByRecursion (IsSaid shape) written.inserts
 
 -- an inserted row has the ids of its write, and stands in its partition
 pub record IsOf (shape : Shape) (written : Written) (found : Found) : Type 0 where

@@ -5,4 +5,3 @@ pub mod Amiss
 pub mod Reading
 pub mod Damage
 pub mod Putting
-pub mod Laws

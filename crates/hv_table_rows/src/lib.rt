@@ -2,7 +2,6 @@
 #![tactic(auto)]
 
 mod amiss;
-mod laws;
 mod placed;
 mod putting;
 mod rising;
@@ -11,7 +10,6 @@ mod rows;
 mod single;
 
 pub use amiss::first_amiss;
-pub use laws::rows_stood;
 pub use putting::{place_of_file, put_file};
 pub use row_at::RowAt;
 pub use rows::{Partition, push_all_deleted, push_rows, rows_rising};

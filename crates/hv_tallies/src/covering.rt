@@ -126,9 +126,9 @@ fn put_ended(
 
 /// Whether commits inserted rows of the partition in a range, and whether they deleted some.
 #[derive(Clone, Copy)]
-struct Within {
-    inserted: bool,
-    deleted: bool,
+pub struct Within {
+    pub inserted: bool,
+    pub deleted: bool,
 }
 
 fn reach_within(range: JobRange) -> Reach
@@ -142,7 +142,8 @@ fn reach_within(range: JobRange) -> Reach
     }
 }
 
-fn found_within(book: &Book, table: u64, partition: &Text, range: JobRange) -> Within
+/// What commits say of a partition's rows in a range of write ids. It walks the table's write ids.
+pub fn found_within(book: &Book, table: u64, partition: &Text, range: JobRange) -> Within
     ensures inserted { result.inserted ≡ has_within false range.low range.high
         (events_in (state_of book.now.entries) table partition.now) }
     ensures deleted { result.deleted ≡ has_within true range.low range.high

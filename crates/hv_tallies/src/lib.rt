@@ -10,7 +10,7 @@ mod survey;
 mod tally;
 mod walking;
 
-pub use covering::covered;
+pub use covering::{Within, covered, found_within};
 pub use covers::may_go;
 pub use survey::{Survey, asked_at, minor_low, survey_in};
 pub use tally::{Reach, Tally, both, either, one_more};

@@ -7,11 +7,12 @@ use Rattle.hv_history.specs.declared.entry.Entry.{Entry}
 use Rattle.hv_history.specs.declared.entry.Entry.TheVariants as entry
 use Rattle.hv_history.specs.State.{State, nothing_yet, after, state_of}
 use Rattle.hv_history.specs.Legal.{Fits, IsTruthful, AllTruthful, IsLegal, profile}
-use Rattle.hv_stands.specs.Files.{Stands}
+use Rattle.hv_law_made.specs.Standing.{Standing}
 use Rattle.hv_stands.specs.Running.{HasPut}
 use Rattle.hv_stands.specs.Statements.{AllFitting}
 use Rattle.hv_stands.proofs.Fitting.{fitting-room, more-fits as fit-next}
-use Rattle.hv_stands.proofs.StatementFiles.{quiet-entries-stand, other-entries-stand, commits-stand}
+use Rattle.hv_law_filed.proofs.QuietEntries.{quiet-entries-stand, other-entries-stand}
+use Rattle.hv_law_filed.proofs.Commits.{commits-stand}
 use Rattle.hv_trail.specs.declared.trail.Reader.TheVariants.{Txn}
 use Rattle.hv_trail.specs.declared.trail.TrailItem.{TrailItem}
 use Rattle.hv_trail.specs.declared.trail.TrailItem.TheVariants.{Noted}
@@ -44,6 +45,9 @@ pub true-says : (book : List Entry) (trail : List TrailItem) (event : Entry) →
 true-says book trail (entry.Commit txn wrote) truly = truly.0
 true-says book trail (entry.Create txn table) truly = truly.0
 true-says book trail (entry.Drop txn table) truly = truly.0
+true-says book trail (entry.Published job low high mark) truly = absurd truly
+true-says book trail (entry.Cleaned job) truly = absurd truly
+true-says book trail (entry.Forgot table write) truly = absurd truly
 true-says book trail event truly = truly
 
 -- no call on files failed for one that commits
@@ -76,13 +80,13 @@ module _ (trail : List TrailItem) (store : Store) (fit : AllFitting (book_of tra
       put.encoded put.held
 
   event-stands : (event : Entry) → Fits profile (state_of book) event → IsUnbroken trail event → IsTrueNow book trail event
-      → Stands (state_of (book ++ event ∷ [])) store.tree
+      → Standing (state_of (book ++ event ∷ [])) store.tree
   event-stands (entry.Commit txn wrote) fits unbroken truly = by truly.1
     where
       near : length book + 1 < write_end
       near = near-end book (entry.Commit txn wrote) fit fits
 
-      by : HasNoId book txn ⊎ IsPutAsMeant book trail txn → Stands (state_of (book ++ entry.Commit txn wrote ∷ [])) store.tree
+      by : HasNoId book txn ⊎ IsPutAsMeant book trail txn → Standing (state_of (book ++ entry.Commit txn wrote ∷ [])) store.tree
       by (inl none) =
           quiet-entries-stand book none.asking txn.0 none.place none.said [] (entry.Commit txn wrote) store.tree fit fits none.under_way (refl, refl)
           true_.faithful.stands
@@ -97,6 +101,9 @@ module _ (trail : List TrailItem) (store : Store) (fit : AllFitting (book_of tra
       let none : HasNoId book txn = truly.1 in
       quiet-entries-stand book none.asking txn.0 none.place none.said [] (entry.Drop txn table) store.tree fit fits none.under_way (refl, refl)
       true_.faithful.stands
+  event-stands (entry.Published job low high mark) fits unbroken truly = absurd truly
+  event-stands (entry.Cleaned job) fits unbroken truly = absurd truly
+  event-stands (entry.Forgot table write) fits unbroken truly = absurd truly
   event-stands event fits unbroken truly = other-entries-stand book event store.tree fit fits tt true_.faithful.stands
 
   -- it stands behind the entry too

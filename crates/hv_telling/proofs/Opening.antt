@@ -3,7 +3,7 @@ use Rattle.std.proofs.Common.{◌≡◌, ℕ, suc, ◌+◌, Bool, true, false, O
 use Rattle.std.specs.Prelude.{is_none}
 use Rattle.std.specs.List.{AllByRecursion}
 use Rattle.std.proofs.lemmas.List.Sums.{fold-append}
-use Rattle.hv_base.specs.Told.{Tells, Moves}
+use Rattle.hv_base.specs.Told.{Tells}
 use Rattle.hv_shelf.specs.Disk.{Store}
 use Rattle.hv_history.specs.declared.entry.Entry.{Entry}
 use Rattle.hv_history.specs.declared.entry.Entry.TheVariants.{Boot}
@@ -12,24 +12,25 @@ use Rattle.hv_history.specs.declared.state.Ending.{Ending}
 use Rattle.hv_history.specs.declared.state.Ending.TheVariants.{Aborted}
 use Rattle.hv_history.specs.declared.state.Transaction.{Transaction}
 use Rattle.hv_history.specs.State.{State, nothing_yet, changed, changed_at, unless_ended, while_open, ended, acted, after, state_of}
-use Rattle.hv_history.specs.Legal.{is_open, profile}
-use Rattle.hv_journal.specs.Appending.{KeepsTree}
+use Rattle.hv_history.specs.Legal.{is_open, profile, IsLegal}
 use Rattle.hv_house.specs.hv_recovery.specs.Recovery.{IsJournalOf}
 use Rattle.hv_stands.proofs.Soundness.{all-numbered, all-more}
 use Rattle.hv_trail.specs.declared.trail.TrailItem.TheVariants.{Noted}
 use Rattle.hv_trail.specs.Trail.{book_of}
+use Rattle.hv_law_made.specs.Opening.{job_ends}
+use Rattle.hv_law_made.specs.Standing.{Standing}
 use Rattle.hv_law_marks.specs.Laws.{AllHaveEnded}
 use Rattle.hv_law_marks.proofs.Standing.{opened-marks-stand}
 use Rattle.hv_house.specs.declared.house.House.{House}
 use Rattle.hv_house.specs.House.{entries_of, IsFaithful}
-use Rattle.hv_house.specs.Booting.{number_next, marked_from, lost_entry, opening_entries, opening_of, OpensTo, Opens}
+use Rattle.hv_house.specs.Booting.{number_next, marked_from, lost_entry, lost_entries, opening_entries, opening_with, OpensTo, OpensWhole, Opens}
 use Rattle.hv_house.specs.Steps.{IsOpenedOver}
-use Rattle.hv_house.proofs.Faithful.{opened-faithful}
+use Rattle.hv_house.proofs.JobEnds.{ends-transactions}
 use Rattle.hv_house.specs.hv_recovery.proofs.Books.{is_once as one-journal}
-use Rattle.hv_house.proofs.Openings.{none-of, booted}
+use Rattle.hv_house.proofs.Openings.{none-of, booted, opened-legal}
 use Rattle.hv_telling.specs.Telling.{IsToldHouse, StandsByMarks, HoldsTrue}
 use Rattle.hv_telling.specs.Laws.{OpenedIsWhole, OpenedIsTold}
-use Rattle.hv_telling.proofs.Told.{also-some, moved-some, house-book, told-holds, same-faithful}
+use Rattle.hv_telling.proofs.Told.{also-some, moved-some, house-book, told-holds}
 
 -- ---- the opening ends each transaction
 
@@ -87,55 +88,67 @@ lost-all front (x ∷ rest) s are all =
     (aborted-there front rest x s are unended ∙ sym (append_assoc front (ended (Aborted s.entries Lost) x ∷ []) rest))
     (all-more HasEnded front (ended (Aborted s.entries Lost) x) all (λ none. cc)))
 
-all-ended : (book : List Entry) → AllByRecursion HasEnded (state_of (opening_of book)).transactions
+lost-ended : (s : State) → AllByRecursion HasEnded (fold after s (lost_entries s)).transactions
 unfolding EndAll
-all-ended book =
-    let s : State = state_of book in
+lost-ended s =
     let one : State = after s (Boot s.openings.count) in
-    subst (λ (state : State). AllByRecursion HasEnded state.transactions) (sym (fold-append after nothing_yet book (opening_entries s)))
-    (subst (λ ts. AllByRecursion HasEnded (fold after one (map lost_entry (marked_from 1 (map is_open ts)))).transactions) (booted s s.openings.count)
-    (lost-all [] one.transactions one refl tt))
+    subst (λ ts. AllByRecursion HasEnded (fold after one (map lost_entry (marked_from 1 (map is_open ts)))).transactions) (booted s s.openings.count)
+    (lost-all [] one.transactions one refl tt)
 
-have-ended : (book : List Entry) → AllHaveEnded (state_of (opening_of book))
-have-ended book txn t here = all-numbered HasEnded (state_of (opening_of book)).transactions txn t here (all-ended book)
+-- the ends of jobs change none of them
+all-ended : (whole : List ℕ) (book : List Entry) → AllByRecursion HasEnded (state_of (opening_with whole book)).transactions
+all-ended whole book =
+    let s : State = state_of book in
+    let behind : State = fold after s (lost_entries s) in
+    subst (λ (state : State). AllByRecursion HasEnded state.transactions)
+    (sym (fold-append after nothing_yet book (opening_entries whole s) ∙ fold-append after s (lost_entries s) (job_ends whole behind 1 s.jobs)))
+    (subst (AllByRecursion HasEnded) (sym (ends-transactions whole s.jobs behind 1)) (lost-ended s))
+
+have-ended : (whole : List ℕ) (book : List Entry) → AllHaveEnded (state_of (opening_with whole book))
+have-ended whole book txn t here = all-numbered HasEnded (state_of (opening_with whole book)).transactions txn t here (all-ended whole book)
 
 -- ---- a house just opened
 
 module _ {D : Type 0} (told : D → Option Store) (shelf : D) (house : House D) where
-  opened-marks : (store : Store) → IsFaithful (entries_of house) store → (book : List Entry) → entries_of house ≡ opening_of book
+  opened-marks : (store : Store) → IsFaithful (entries_of house) store → (whole : List ℕ) (book : List Entry) → entries_of house ≡ opening_with whole book
       → StandsByMarks (map Noted (entries_of house)) (entries_of house) store
-  opened-marks store faithful book is = record {
+  opened-marks store faithful whole book is = record {
     faithful = faithful;
     marks = opened-marks-stand (entries_of house) store.tree
-        (subst (λ (entries : List Entry). AllHaveEnded (state_of entries)) (sym is) (have-ended book));
+        (subst (λ (entries : List Entry). AllHaveEnded (state_of entries)) (sym is) (have-ended whole book));
   }
 
-  now-faithful : (start : Store) (book : List Entry) → told shelf ≡ Some start → OpensTo book start → Opens profile (told shelf) (entries_of house)
-      → Moves KeepsTree (told shelf) (told house.shelf) → IsSomeAnd (told house.shelf) (IsFaithful (entries_of house))
-  now-faithful start book tells opens opened moves =
-      moved-some KeepsTree (IsFaithful (opening_of opened.0)) (IsFaithful (entries_of house)) (told shelf) (told house.shelf) moves
-      (λ x y same faithful. subst (λ (b : List Entry). IsFaithful b y) (sym opened.1.now_is) (same-faithful (opening_of opened.0) x y same faithful))
-      (subst (λ (o : Option Store). IsSomeAnd o (IsFaithful (opening_of opened.0))) (sym tells)
-      (opened-faithful opened.0 start opened.1.room (subst (λ (b : List Entry). IsFaithful b start) same opens.faithful)))
-    where
-      read : IsJournalOf profile opened.0 start.journal
-      read = subst (λ (o : Option Store). Tells o (λ s. IsJournalOf profile opened.0 s.journal)) tells opened.1.reads
+  module _ (start : Store) (book : List Entry) (tells : told shelf ≡ Some start) (opens : OpensTo book start) (opened : Opens profile (told shelf) (entries_of house)) where
+    read : IsJournalOf profile opened.0 start.journal
+    read = subst (λ (o : Option Store). Tells o (λ s. IsJournalOf profile opened.0 s.journal)) tells opened.1.reads
 
-      same : book ≡ opened.0
-      same = one-journal book opened.0 start.journal opens.journal read.journal
+    same : book ≡ opened.0
+    same = one-journal book opened.0 start.journal opens.journal read.journal
 
-  opened-holds : Opens profile (told shelf) (entries_of house) → IsOpenedOver shelf house → Moves KeepsTree (told shelf) (told house.shelf)
-      → IsToldHouse told house → HoldsTrue told house
-  opened-holds opened over moves is =
+    -- its book is legal
+    now-legal : IsLegal profile (entries_of house)
+    now-legal =
+        subst (IsLegal profile) (sym opened.1.now_is)
+        (opened-legal profile opened.1.whole opened.0 (subst (IsLegal profile) same opens.left.legal) opened.1.room)
+
+    now-faithful : OpensWhole profile (entries_of house) (told shelf) (told house.shelf) → IsSomeAnd (told house.shelf) (IsFaithful (entries_of house))
+    now-faithful whole =
+        moved-some (λ (s t : Store). (b : List Entry) → OpensTo b s → Standing (state_of (entries_of house)) t.tree) (OpensTo book) (IsFaithful (entries_of house))
+        (told shelf) (told house.shelf) whole (λ s t stands opens. record { stands = stands book opens; legal = now-legal })
+        (subst (λ (o : Option Store). IsSomeAnd o (OpensTo book)) (sym tells) opens)
+
+  opened-holds : Opens profile (told shelf) (entries_of house) → IsOpenedOver shelf house
+      → OpensWhole profile (entries_of house) (told shelf) (told house.shelf) → IsToldHouse told house → HoldsTrue told house
+  opened-holds opened over whole is =
       told-holds told house (map Noted (entries_of house)) over.trail
       (subst (λ (book : List Entry). IsSomeAnd (told house.shelf) (StandsByMarks (map Noted (entries_of house)) book))
       (sym (sym (ap book_of over.trail) ∙ house-book house))
       (also-some (IsFaithful (entries_of house)) (StandsByMarks (map Noted (entries_of house)) (entries_of house)) (told house.shelf)
-      (λ s faithful. opened-marks s faithful opened.0 opened.1.now_is)
-      (now-faithful is.store is.book (ap told (sym over.start) ∙ is.tells) is.opens opened moves)))
+      (λ s faithful. opened-marks s faithful opened.1.whole opened.0 opened.1.now_is)
+      (now-faithful is.store is.book (ap told (sym over.start) ∙ is.tells) is.opens opened whole)))
 
 pub opened-is-whole : {D : Type 0} → OpenedIsWhole D
-opened-is-whole told shelf house ready opened over moves = record { ready = ready; truly = opened-holds told shelf house opened over moves }
+opened-is-whole told shelf house ready opened over whole = record { ready = ready; truly = opened-holds told shelf house opened over whole }
 
 pub opened-is-told : {D : Type 0} → OpenedIsTold D
 opened-is-told told shelf house store book over tells opens =

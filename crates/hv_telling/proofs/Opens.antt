@@ -1,8 +1,14 @@
 -- What a call that stopped leaves opens again.
-use Rattle.std.proofs.Common.{inl, inr, Option, Some, None, IsSomeAnd, List, [], ◌++◌, refl, sym, subst, append-nil}
+use Rattle.std.proofs.Common.{inl, inr, ◌+◌, ◌<◌, ◌≤◌, Option, Some, None, IsSomeAnd, List, [], ◌++◌, refl, sym, subst, append-nil, arith}
 use Rattle.hv_shelf.specs.Disk.{Store}
 use Rattle.hv_history.specs.declared.entry.Entry.{Entry}
+use Rattle.hv_dirs.specs.Names.{write_end}
 use Rattle.hv_history.specs.Journal.{Reads}
+use Rattle.hv_history.specs.State.{nothing_yet, state_of}
+use Rattle.hv_history.specs.Legal.{profile, load, AllFit}
+use Rattle.hv_stands.proofs.Fitting.{load-within}
+use Rattle.hv_law_made.proofs.BareJobs.{standing-recovers}
+use Rattle.hv_law_made.proofs.BookLemmas.{books-are-sound}
 use Rattle.hv_journal.specs.Appending.{Holds, KeepsTree}
 use Rattle.hv_house.specs.declared.fault.HouseFault.{HouseFault}
 use Rattle.hv_house.specs.declared.fault.HouseFault.TheVariants as fault
@@ -10,22 +16,36 @@ use Rattle.hv_house.specs.declared.house.House.{House}
 use Rattle.hv_house.specs.House.{entries_of, IsFaithful, Leaves, AreHalted}
 use Rattle.hv_house.proofs.Boots.{reads-journal}
 use Rattle.hv_telling.specs.Telling.{OpensLater, StillOpens}
-use Rattle.hv_telling.specs.Laws.{WholeOpens}
+use Rattle.hv_telling.specs.Laws.{FaithfulIsLeft, WholeOpens}
 use Rattle.hv_telling.proofs.Told.{both-some, moved-some, same-faithful, true-shown}
 
 -- ---- one store
 
+-- a legal book is as long as the profile lets it be
+few-entries : (book : List Entry) → AllFit profile nothing_yet book → (state_of book).entries + 1 < write_end
+few-entries book fit =
+    let none : load nothing_yet ≤ profile.entries = omega arith in
+    let small : load (state_of book) ≤ profile.entries = load-within profile book nothing_yet fit none in
+    omega (arith, small)
+
+pub faithful-is-left : FaithfulIsLeft
+faithful-is-left book store faithful = record {
+  recovers =
+      standing-recovers (state_of book) store.tree (few-entries book faithful.legal.fit) (books-are-sound profile book faithful.legal.fit) faithful.stands;
+  legal = faithful.legal;
+}
+
 pub opens-itself : (book : List Entry) (store : Store) → Reads book store.journal → IsFaithful book store → OpensLater book store
 opens-itself book store reads faithful = record {
   book = book;
-  opens = record { journal = reads-journal book store.journal reads; faithful = faithful };
+  opens = record { journal = reads-journal book store.journal reads; left = faithful-is-left book store faithful };
   begins = ([], sym (append-nil book));
 }
 
 opens-behind : (book more : List Entry) (store : Store) → Reads (book ++ more) store.journal → IsFaithful (book ++ more) store → OpensLater book store
 opens-behind book more store reads faithful = record {
   book = book ++ more;
-  opens = record { journal = reads-journal (book ++ more) store.journal reads; faithful = faithful };
+  opens = record { journal = reads-journal (book ++ more) store.journal reads; left = faithful-is-left (book ++ more) store faithful };
   begins = (more, refl);
 }
 

@@ -15,9 +15,9 @@ use Rattle.hv_route.specs.declared.files.OutFile.{OutFile}
 use Rattle.hv_stands.specs.Running.{IsOfId}
 use Rattle.hv_stands.specs.Statements.{AllFitting}
 use Rattle.hv_stands.proofs.Numbers.{either}
-use Rattle.hv_stands.proofs.StandingFiles.{same-place}
+use Rattle.hv_stands.proofs.Places.{same-place}
 use Rattle.hv_stands.proofs.OwnFiles.{found-given}
-use Rattle.hv_stands.proofs.StatementFiles.{puts-stand}
+use Rattle.hv_law_filed.proofs.OwnChanges.{puts-stand}
 use Rattle.hv_house.specs.hv_table_rows.specs.Putting.{bytes_of}
 use Rattle.hv_trail.specs.declared.trail.Reader.TheVariants.{Txn}
 use Rattle.hv_trail.specs.declared.trail.Mark.{Mark}
@@ -37,7 +37,7 @@ use Rattle.hv_house.specs.declared.fault.HouseFault.{HouseFault}
 use Rattle.hv_house.specs.declared.fault.HouseFault.TheVariants as fault
 use Rattle.hv_house.specs.declared.house.House.{House}
 use Rattle.hv_house.specs.House.{entries_of, IsReady, IsFaithful}
-use Rattle.hv_house.specs.Steps.{seen_of, PutStep}
+use Rattle.hv_house.specs.Steps.{seen_of, PutStep, put_of}
 use Rattle.hv_telling.specs.Telling.{IsToldHouse, StandsByMarks, HoldsTrue, IsWhole, StaysWhole, StillOpens, IsMeantFile}
 use Rattle.hv_telling.proofs.Told.{moved-some, house-book, holds-told, told-holds, true-shown, told-stays}
 use Rattle.hv_telling.proofs.Opens.{held-opens}
@@ -166,11 +166,12 @@ module _ {D : Type 0} (told : D → Option Store) (faults : D → ℕ) (by : Txn
       (moved-some (λ x y. y ≡ x) (StandsByMarks trail (book_of trail)) (StandsByMarks trail (book_of trail)) (told before.shelf) (told now.shelf) step.store
       (λ x y same true_. subst (StandsByMarks trail (book_of trail)) (sym same) true_) (holds-here is))
 
-  pub put-whole : (result : Result (Unit {0}) HouseFault) → PutStep told faults by place (bytes_of file) before now result → OnOk result (IsWhole told now)
+  pub put-whole : (result : Result (Unit {0}) HouseFault) → PutStep told faults (put_of by place (bytes_of file)) before now result
+      → OnOk result (IsWhole told now)
   put-whole (Ok x) step = record { ready = step.ready; truly = λ is. put-holds step.step (told-before Done step.step is) }
   put-whole (Err why) step = tt
 
-  pub put-stays : (result : Result (Unit {0}) HouseFault) → PutStep told faults by place (bytes_of file) before now result
+  pub put-stays : (result : Result (Unit {0}) HouseFault) → PutStep told faults (put_of by place (bytes_of file)) before now result
       → IfErr result (λ why. StaysWhole told why now)
   put-stays (Ok x) step = tt
   put-stays (Err fault.Store) step = tt
@@ -189,7 +190,7 @@ module _ {D : Type 0} (told : D → Option Store) (faults : D → ℕ) (by : Txn
       (torn-faithful trail by place file fit-here near-here (meant-here is) x y torn true_.faithful))
       (holds-here is)
 
-  pub put-opens : (result : Result (Unit {0}) HouseFault) → PutStep told faults by place (bytes_of file) before now result
+  pub put-opens : (result : Result (Unit {0}) HouseFault) → PutStep told faults (put_of by place (bytes_of file)) before now result
       → IsToldHouse told before → IfErr result (λ _. StillOpens told now)
   put-opens (Ok x) step is = tt
   put-opens (Err fault.Store) step is = held-opens told now step.stays (closed-shows step.step step.book is)

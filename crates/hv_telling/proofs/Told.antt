@@ -5,7 +5,7 @@ use Rattle.hv_shelf.specs.Disk.{Store}
 use Rattle.hv_journal.specs.Appending.{KeepsTree}
 use Rattle.hv_history.specs.declared.entry.Entry.{Entry}
 use Rattle.hv_history.specs.State.{state_of}
-use Rattle.hv_stands.specs.Files.{Stands}
+use Rattle.hv_law_made.specs.Standing.{Standing}
 use Rattle.hv_trail.specs.declared.trail.TrailItem.{TrailItem}
 use Rattle.hv_trail.specs.Kept.{trail_of}
 use Rattle.hv_trail.specs.Trail.{book_of}
@@ -50,7 +50,7 @@ both-some P Q R (Some x) both p q = both x p q
 -- ---- one store
 
 pub same-faithful : (book : List Entry) (before now : Store) → KeepsTree before now → IsFaithful book before → IsFaithful book now
-same-faithful book before now same faithful = record { stands = subst (Stands (state_of book)) (sym same) faithful.stands; legal = faithful.legal }
+same-faithful book before now same faithful = record { stands = subst (Standing (state_of book)) (sym same) faithful.stands; legal = faithful.legal }
 
 pub same-true : (trail : List TrailItem) (book : List Entry) (before now : Store) → KeepsTree before now → StandsByMarks trail book before
     → StandsByMarks trail book now

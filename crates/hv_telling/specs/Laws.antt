@@ -1,15 +1,13 @@
 -- What is proved of a house that is told: reading keeps it, and a house just opened is so.
 use Rattle.std.specs.Prelude.{◌≡◌, ℕ, Option, Some, IsSomeAnd, List}
-use Rattle.hv_base.specs.Told.{Moves}
 use Rattle.hv_shelf.specs.Disk.{Store}
 use Rattle.hv_history.specs.declared.entry.Entry.{Entry}
 use Rattle.hv_history.specs.Legal.{profile}
-use Rattle.hv_journal.specs.Appending.{KeepsTree}
 use Rattle.hv_trail.specs.declared.trail.Reader.{Reader}
 use Rattle.hv_trail.specs.Steps.{Read, Outcome, Step}
 use Rattle.hv_house.specs.declared.house.House.{House}
 use Rattle.hv_house.specs.House.{entries_of, IsReady, IsFaithful}
-use Rattle.hv_house.specs.Booting.{OpensTo, Opens}
+use Rattle.hv_house.specs.Booting.{IsLeftWithin, OpensTo, OpensWhole, Opens}
 use Rattle.hv_house.specs.Steps.{seen_of, IsOpenedOver}
 use Rattle.hv_telling.specs.Telling.{IsToldHouse, HoldsTrue, IsWhole, OpensLater, StillOpens}
 
@@ -45,14 +43,18 @@ ReadsStillOpen D =
 
 -- ---- opening
 
+-- what stands can be opened
+abbrev pub FaithfulIsLeft : Type 0
+FaithfulIsLeft = (book : List Entry) (store : Store) → IsFaithful book store → IsLeftWithin profile book store
+
 -- a house that was just opened is whole
 abbrev pub OpenedIsWhole : Type 0 → Type 0
 OpenedIsWhole D =
     (told : D → Option Store) (shelf : D) (house : House D)
     → IsReady told house → Opens profile (told shelf) (entries_of house) → IsOpenedOver shelf house
-    → Moves KeepsTree (told shelf) (told house.shelf) → IsWhole told house
+    → OpensWhole profile (entries_of house) (told shelf) (told house.shelf) → IsWhole told house
 
--- and is told, where it was opened over a store that tells of a book whose files stand
+-- and is told, where it was opened over a store that tells of a book, whose files are what a run leaves
 abbrev pub OpenedIsTold : Type 0 → Type 0
 OpenedIsTold D =
     (told : D → Option Store) (shelf : D) (house : House D) (store : Store) (book : List Entry)

@@ -31,8 +31,8 @@ use Rattle.hv_house.specs.Steps.{AreWritten}
 
 -- ---- a house that is told
 
--- The store that a house was opened over told its contents: a journal of a legal book, whose files stood. No call changes what a
--- house was opened over.
+-- The store that a house was opened over told its contents: a journal of a legal book, and files as a run leaves them. No call changes what
+-- a house was opened over.
 pub record IsTold {D : Type 0} (told : D → Option Store) (start : D) : Type 0 where
   pub store : Store
   pub tells : told start ≡ Some store
@@ -71,8 +71,7 @@ pub record OpensLater (start : List Entry) (store : Store) : Type 0 where
   pub opens : OpensTo book store
   pub begins : (more : List Entry) × (book ≡ start ++ more)
 
--- What the house leaves behind a stop tells and opens again: to its book, or to that and what was being noted, and all files of either
--- stand.
+-- What the house leaves behind a stop tells and opens again: to its book, or to that and what was being noted.
 unfoldable pub StillOpens : {D : Type 0} → (D → Option Store) → House D → Type 0
 StillOpens told now = IsSomeAnd (told now.shelf) (OpensLater (entries_of now))
 
@@ -99,12 +98,16 @@ pub record IsPutAsMeant (book : List Entry) (trail : List TrailItem) (txn : TxnI
   pub held : AreHeld effect.inserts
   pub encoded : AllByRecursion HasFile (files_of info.shape write 0 effect)
 
--- What it says of its transaction is so; and what ends one as committed has no write id, or the files of what it means.
+-- What it says of its transaction is so; and what ends one as committed has no write id, or the files of what it means. What publishes, has
+-- cleaned or forgets asks of files too, and is for calls of its own.
 abbrev pub IsTrueNow : List Entry → List TrailItem → Entry → Type 0
 IsTrueNow book trail (entry.Commit txn wrote) =
     IsTruthful (state_of book) (entry.Commit txn wrote) × (HasNoId book txn ⊎ IsPutAsMeant book trail txn)
 IsTrueNow book trail (entry.Create txn table) = IsTruthful (state_of book) (entry.Create txn table) × HasNoId book txn
 IsTrueNow book trail (entry.Drop txn table) = IsTruthful (state_of book) (entry.Drop txn table) × HasNoId book txn
+IsTrueNow book trail (entry.Published job low high mark) = ⊥
+IsTrueNow book trail (entry.Cleaned job) = ⊥
+IsTrueNow book trail (entry.Forgot table write) = ⊥
 IsTrueNow book trail event = IsTruthful (state_of book) event
 
 -- ---- what is true of a file where it is put

@@ -6,5 +6,5 @@ pub use hv_house;
 mod laws;
 mod telling;
 
-pub use laws::{opened_is_whole, reads_keep_whole, told_stays, true_shows};
+pub use laws::{faithful_is_left, opened_is_whole, reads_keep_whole, told_stays, true_shows};
 pub use telling::{begin, note, put};

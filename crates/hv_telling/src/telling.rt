@@ -10,7 +10,7 @@ ghost use Rattle.hv_trail.specs.Steps.{Step};
 ghost use Rattle.hv_trail.specs.Steps as calls;
 ghost use Rattle.hv_house.specs.Faults.{FileCause, EndsRun, HardStep};
 ghost use Rattle.hv_house.specs.House.{entries_of, IsSmall, BeginFits, beginning_of, AreNoted, IsNoted, AreHalted, IsHalted};
-ghost use Rattle.hv_house.specs.Steps.{seen_of, outcome_of, IsMarked, IsOwnFile, PutStep};
+ghost use Rattle.hv_house.specs.Steps.{seen_of, outcome_of, IsMarked, IsOwnFile, PutStep, put_of};
 ghost use Rattle.hv_telling.specs.Telling.{IsToldHouse, IsWhole, StaysWhole, StillOpens, IsTrueNow, IsMeantFile};
 
 use hv_ast::Stmt;
@@ -118,7 +118,7 @@ pub fn put<D: Shelf>(
     ensures opens { IsToldHouse D.told house.old
         → IfErr result (λ _. StillOpens D.told house.new) }
     ensures start { house.new.start ≡ house.old.start }
-    ensures put { PutStep D.told D.faults by place (bytes_of file.now) house.old house.new result }
+    ensures put { PutStep D.told D.faults (put_of by place (bytes_of file.now)) house.old house.new result }
     ensures hard { HardStep (D.hard house.old.shelf) (D.hard house.new.shelf)
         house.old.trail.closed house.new.trail.closed }
     ensures encoded { OnOk result (IsEncoded file.now) }

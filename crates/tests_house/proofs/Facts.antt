@@ -9,7 +9,9 @@ use Rattle.std.proofs.lemmas.Bool.Decides.{nat_tests}
 use Rattle.std.proofs.lemmas.List.{length-append}
 use Rattle.std.proofs.lemmas.List.Concat.{flat_map-cons}
 use Rattle.hv_base.specs.declared.ids.TxnId.{TxnId}
+use Rattle.hv_base.specs.declared.ids.JobId.{JobId}
 use Rattle.hv_base.specs.declared.ids.TableId.{TableId}
+use Rattle.hv_base.specs.declared.ids.WriteId.{WriteId}
 use Rattle.hv_base.specs.declared.ids.Touch.{Touch}
 use Rattle.hv_bytes.proofs.Lengths.{length-four, length-eight, length-text}
 use Rattle.hv_journal.proofs.Lengths.{length-touches}
@@ -27,6 +29,8 @@ use Rattle.hv_route.specs.declared.fault.RouteFault.TheVariants as fault
 use Rattle.hv_history.specs.declared.entry.Entry.{Entry}
 use Rattle.hv_history.specs.declared.entry.Entry.TheVariants as entry
 use Rattle.hv_history.specs.declared.entry.Cause.TheVariants as cause
+use Rattle.hv_history.specs.declared.entry.JobKind.{JobKind}
+use Rattle.hv_history.specs.declared.entry.JobKind.TheVariants as job_kind
 use Rattle.hv_history.specs.declared.state.Table.{Table}
 use Rattle.hv_history.specs.Spelling.{touch_spelling}
 use Rattle.hv_history.specs.State.{state_of, numbered}
@@ -97,6 +101,13 @@ short_full txn = grind (arith, length-append, length-eight)
 
 pub short_idle : (txn : TxnId) → IsSmall (entry.Commit txn [])
 short_idle txn = grind (arith, length-append, length-eight, length-touches)
+
+pub short_asked : (job : JobId) (table : TableId) (partition : List ℕ) (kind : JobKind) → length partition ≤ 32768 → IsSmall (entry.Asked job table partition kind 0)
+short_asked job table partition job_kind.Minor short = grind (arith, length-append, length-eight, length-text, short)
+short_asked job table partition job_kind.Major short = grind (arith, length-append, length-eight, length-text, short)
+
+pub short_picked : (job : JobId) (watermark : WriteId) → IsSmall (entry.Picked job watermark)
+short_picked job watermark = grind (arith, length-append, length-eight)
 
 touch_length : (t : Touch) → is_long t ≡ false → length (touch_spelling t) ≤ 268
 unfolding touch_spelling

@@ -1,5 +1,5 @@
 -- What the calls ask for that note an entry by its name.
-use Rattle.std.proofs.Common.{◌≡◌, ℕ, ◌+◌, ◌≤◌, Option, Some, None, Bool, true, false, List, length, Result, Ok, Err, sym, ◌∙◌, subst}
+use Rattle.std.proofs.Common.{◌≡◌, ℕ, ◌+◌, Option, Some, None, Bool, true, false, List, length, Result, Ok, Err, sym, ◌∙◌, subst}
 use Rattle.std.specs.Prelude.{◌↔◌, IsTrue, IsSomeAnd, IfOk, OnOk}
 use Rattle.std.specs.Option.{option_map}
 use Rattle.hv_base.specs.declared.ids.Limits.{Limits}
@@ -12,13 +12,10 @@ use Rattle.hv_history.specs.Legal.{is_open, Of, StartFits, GivenFits, CreateFits
 use Rattle.hv_book.specs.declared.notes.TransactionNote.{TransactionNote}
 use Rattle.hv_book.specs.Briefs.{brief}
 use Rattle.hv_house.specs.declared.house.House.{House}
-use Rattle.hv_house.specs.House.{entries_of, IsReadyWithin}
+use Rattle.hv_house.specs.House.{IsReadyWithin}
 use Rattle.hv_house.specs.declared.calls.EntryFault.{EntryFault}
 use Rattle.hv_house.specs.declared.calls.EntryFault.TheVariants as fault
 use Rattle.hv_house.specs.Calls.{CanBeGiven, CanStart, IfOpen, StaysOpenWithin}
-use Rattle.hv_trail.specs.Kept.{trail_of}
-use Rattle.hv_session.specs.hv_steps.specs.hv_table_reader.specs.hv_acts.specs.Reading.{HasPlace}
-use Rattle.hv_session.specs.hv_steps.specs.hv_table_reader.specs.hv_acts.proofs.Steps.{book-is}
 use Rattle.tests_house.specs.Asking.{IsOpen, StaysOpen, IsRefusal}
 
 of_open : (P : Transaction → Type 0) (o : Option Transaction) → IsSomeAnd o P → IsSomeAnd o (λ t. IsTrue (is_open t) → P t)
@@ -104,6 +101,3 @@ pub refused_open : {D : Type 0} {T E : Type 0} (limits : Limits) (told : D → O
     → OnOk said (IsRefusal why) → IfOk said (λ _. IsReadyWithin limits told now)
 refused_open limits told why now (Ok x) ready refused = stays limits told why now ready refused
 refused_open limits told why now (Err fault) ready refused = tt
-
-pub place_within : {D : Type 0} (house : House D) (place : ℕ) → place ≤ length (entries_of house) → HasPlace (trail_of house.trail) place
-place_within house place within = subst (λ (book : List Entry). place ≤ length book) (sym (book-is house)) within

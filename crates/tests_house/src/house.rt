@@ -1,13 +1,10 @@
 //! Houses over stores: opened, and closed. No house and no store is let go of piece by piece: a house gives its store back, and a store is
 //! left to the end of the program.
-ghost use Rattle.std.specs.Prelude.{◌≡◌, true, IfOk};
-ghost use Rattle.hv_trail.specs.Kept.{trail_of};
+ghost use Rattle.std.specs.Prelude.{IfOk};
 ghost use Rattle.hv_session.specs.hv_steps.specs.hv_table_reader.specs.hv_acts.specs.hv_telling.specs.Telling.{IsWhole};
 ghost use Rattle.hv_house.specs.Housed.{ShutsHard};
 ghost use Rattle.hv_house.specs.Steps.{seen_of};
-ghost use Rattle.hv_session.specs.hv_steps.specs.hv_table_reader.specs.hv_acts.specs.Told.{trail_in};
 ghost use Rattle.hv_session.specs.hv_steps.specs.hv_table_reader.specs.hv_acts.specs.Going.{IsOpenHouse};
-ghost use Rattle.hv_session.specs.hv_steps.specs.hv_table_reader.specs.hv_acts.specs.Reading.{HasPlace};
 ghost use Rattle.tests_house.specs.Asking.{IsOpen};
 ghost use Rattle.tests_house.specs.Keeping.{IsAsKept};
 
@@ -64,41 +61,22 @@ fn opened_whole<D: Shelf + Drop>(alloc: Global, store: D) -> io::Result<House<D>
     }
 }
 
-/// Whether the book of a house has this place.
-#[tactic(auto, using(crate::proofs::Rooms::place_within))]
-fn has_place<D: Shelf>(house: &House<D>, place: u64) -> bool
-    ensures place { result ≡ true → HasPlace (trail_of house.now.trail) place }
-{
-    place <= house.book().entries().len() as u64
-}
-
-/// A house for those who act on it, whose book has this place.
-fn told_at<D: Shelf + Drop>(house: House<D>, place: u64) -> io::Result<ToldHouse<D>>
+/// A house for those who act on it.
+fn told<D: Shelf + Drop>(house: House<D>) -> ToldHouse<D>
     requires whole { IsWhole D.told house }
     requires hard { ShutsHard D.hard (seen_of house) }
-    ensures keeps { IfOk result (IsAsKept D.told D.hard) }
-    ensures running { IfOk result IsOpenHouse }
-    ensures place { IfOk result (λ told. HasPlace (trail_in told) place) }
+    ensures keeps { IsAsKept D.told D.hard result }
+    ensures running { IsOpenHouse result }
 {
-    if has_place(&house, place) {
-        Ok(ToldHouse::new(house))
-    } else {
-        leave(house.close());
-        Err(ErrorKind::Other.into())
-    }
+    ToldHouse::new(house)
 }
 
-/// A house over this store for those who act on it, whose book has this place.
-pub(crate) fn open_told<D: Shelf + Drop>(
-    alloc: Global,
-    store: D,
-    place: u64,
-) -> io::Result<ToldHouse<D>>
+/// A house over this store for those who act on it.
+pub(crate) fn open_told<D: Shelf + Drop>(alloc: Global, store: D) -> io::Result<ToldHouse<D>>
     ensures keeps { IfOk result (IsAsKept D.told D.hard) }
     ensures running { IfOk result IsOpenHouse }
-    ensures place { IfOk result (λ told. HasPlace (trail_in told) place) }
 {
-    told_at(opened_whole(alloc, store)?, place)
+    Ok(told(opened_whole(alloc, store)?))
 }
 
 /// Closes a house, and leaves its store.

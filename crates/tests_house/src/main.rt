@@ -9,6 +9,7 @@ mod acting;
 mod asking;
 mod calls;
 mod changes;
+mod compacting;
 mod desk;
 mod ending;
 mod house;

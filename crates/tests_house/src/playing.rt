@@ -4,13 +4,14 @@ ghost use Rattle.tests_house.specs.Asking.{told_memory, IsOpen, StaysOpen};
 
 use crate::calls::{Said, abort, abort_full, add_said, create, drop_table, give, start, statement};
 use crate::changes::change;
+use crate::compacting::{ask, pick};
 use crate::ending::commit_idle;
 use crate::house::{LIMITS, boot, leave};
 use crate::seeing::see;
 use crate::showing::{add_book, add_files};
 use crate::stores::{copied, fresh, kept, lay};
 use crate::words::{add, add_number, cut, number, say};
-use hv_base::{Limits, TableId, TxnId};
+use hv_base::{JobId, Limits, TableId, TxnId, WriteId};
 use hv_house::{BootFault, House, HouseFault};
 use hv_shelf::{MemoryShelf, Shelf};
 use std::alloc::Global;
@@ -46,6 +47,8 @@ fn call<D: Shelf>(
         "full" => abort_full(house, txn),
         "create" => create(house, txn),
         "drop" => drop_table(house, txn, TableId(number(more))),
+        "ask" => ask(alloc, house, first, more),
+        "pick" => pick(house, JobId(number(first)), WriteId(number(more))),
         _ => Ok(Said::Refused),
     }
 }

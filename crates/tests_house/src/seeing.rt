@@ -1,15 +1,28 @@
 //! The rows of a table as they stood where a transaction started, read act by act over a copy of the store.
 
+ghost use Rattle.hv_stands.specs.Running.{Asking};
+ghost use Rattle.hv_session.specs.hv_steps.specs.hv_table_reader.specs.hv_acts.specs.Told.{trail_in};
+ghost use Rattle.hv_session.specs.hv_steps.specs.hv_table_reader.specs.hv_acts.specs.Going.{IsOpenHouse};
+ghost use Rattle.hv_session.specs.hv_steps.specs.Going.{WasOnWay};
+ghost use Rattle.hv_session.specs.Doing.{CanFinish, CanFinishTaken};
+
+use crate::acting::{asking, take_one};
 use crate::house::{close, leave, open_told};
-use crate::stores::copied;
+use crate::stores::copied_front;
 use crate::words::{add, cut, number};
-use hv_base::{Text, TxnId};
+use hv_actor::Actor;
+use hv_ast::{Stmt, discard};
+use hv_base::Stage;
 use hv_history::FilePlace;
-use hv_house::House;
+use hv_house::{House, HouseFault};
 use hv_logic::{Found, Seen};
 use hv_meta::note_of;
+use hv_names::names_in;
+use hv_session::hv_steps::Way;
+use hv_session::hv_steps::hv_table_reader::hv_acts::ToldHouse;
 use hv_session::hv_steps::hv_table_reader::{RowFault, see_table};
-use hv_shelf::MemoryShelf;
+use hv_session::{Paused, Point, Taken};
+use hv_shelf::{MemoryShelf, Shelf};
 use hv_value::Value;
 use std::alloc::Global;
 use std::io;
@@ -67,29 +80,103 @@ fn add_seen(
     }
 }
 
-/// The rows of the table of that name, as they stood at a place of this store's book.
-fn see_at(
+/// What a statement on its way sees of the first table that it names.
+fn first_seen<D: Shelf + Drop, W: Actor<D, ToldHouse<D>>>(
     alloc: Global,
-    said: &mut String,
-    store: MemoryShelf,
-    txn: TxnId,
-    place: u64,
-    name: &str,
-) -> io::Result<()> {
-    let Ok(name) = Text::of(alloc, name) else {
-        leave(store);
-        return Err(ErrorKind::OutOfMemory.into());
+    actor: &mut W,
+    way: Way,
+    tree: &Stmt,
+) -> Result<Option<Seen>, RowFault>
+    requires keeps { W.keeps actor.old }
+    requires running { IsOpenHouse (W.house actor.old) }
+    requires was { (asking : Asking) × WasOnWay (trail_in (W.house actor.old)) asking way tree.now }
+{
+    let names = names_in(alloc, tree)?;
+    match names.first() {
+        Some(lock) => see_table(alloc, actor, way.txn, way.place, &lock.name, true),
+        None => Ok(None),
+    }
+}
+
+/// What a statement that is held at its Start sees of it.
+fn seen_held<D: Shelf + Drop, W: Actor<D, ToldHouse<D>>>(
+    alloc: Global,
+    actor: &mut W,
+    paused: Paused,
+) -> Result<Option<Seen>, RowFault>
+    requires keeps { W.keeps actor.old }
+    requires running { IsOpenHouse (W.house actor.old) }
+    requires can { CanFinish D.told (W.house actor.old) paused }
+{
+    let Paused { way, tree, point } = paused;
+    match point {
+        Point::Started => {
+            let found = first_seen(alloc, actor, way, &tree);
+            discard(tree);
+            found
+        }
+        Point::Meant(meaning) => {
+            leave(meaning);
+            discard(tree);
+            Err(RowFault::House(HouseFault::NoMemory))
+        }
+        Point::Ready(ready) => {
+            leave(ready);
+            discard(tree);
+            Err(RowFault::House(HouseFault::NoMemory))
+        }
+    }
+}
+
+/// What a statement sees of it that was taken up, where it is held.
+fn seen_taken<D: Shelf + Drop, W: Actor<D, ToldHouse<D>>>(
+    alloc: Global,
+    actor: &mut W,
+    taken: Taken,
+) -> Result<Option<Seen>, RowFault>
+    requires keeps { W.keeps actor.old }
+    requires running { IsOpenHouse (W.house actor.old) }
+    requires can { CanFinishTaken D.told (W.house actor.old) taken }
+{
+    match taken {
+        Taken::Kept(paused) => seen_held(alloc, actor, paused),
+        Taken::Replied(reply) => {
+            leave(reply);
+            Err(RowFault::House(HouseFault::NoMemory))
+        }
+    }
+}
+
+/// What the query of this text sees that is held at its Start.
+fn seen_by<D: Shelf + Drop, W: Actor<D, ToldHouse<D>>>(
+    alloc: Global,
+    actor: &mut W,
+    text: &str,
+) -> Result<Option<Seen>, RowFault>
+    requires keeps { W.keeps actor.old }
+    requires running { IsOpenHouse (W.house actor.old) }
+{
+    let Some(asking) = asking(alloc, "reader", text, Some(Stage::Start)) else {
+        return Err(RowFault::House(HouseFault::NoMemory));
     };
-    let mut house = open_told(alloc, store, place)?;
-    let found = see_table(alloc, &mut house, txn, place, &name, true);
+    match take_one(alloc, actor, asking) {
+        Ok(taken) => seen_taken(alloc, actor, taken),
+        Err(why) => Err(RowFault::House(why)),
+    }
+}
+
+/// The rows that the query of this text sees over a store.
+fn see_at(alloc: Global, said: &mut String, store: MemoryShelf, text: &str) -> io::Result<()> {
+    let mut house = open_told(alloc, store)?;
+    let found = seen_by(alloc, &mut house, text);
     close(house);
     let done = add_seen(alloc, said, &found);
     leave(found);
     done
 }
 
-/// The rows of a table as they stood where a transaction started: `TXN NAME`. They are read from a copy of the house's store that is
-/// opened by itself, so that the house goes on as it is.
+/// The rows of a table as they stood where a transaction started: `TXN NAME`. A query sees them over a copy of the house's store whose
+/// journal ends before that Start, opened by itself, so that the house goes on as it is.
 pub(crate) fn see(
     alloc: Global,
     said: &mut String,
@@ -97,14 +184,14 @@ pub(crate) fn see(
     words: &str,
 ) -> io::Result<()> {
     let (txn, name) = cut(words, ' ');
-    let txn = number(txn);
-    let place = match note_of(house.book(), txn) {
+    let place = match note_of(house.book(), number(txn)) {
         Some(note) => note.started,
         None => None,
     };
     let Some(place) = place else {
         return add(said, "refused");
     };
-    let store = copied(alloc, house.shelf())?;
-    see_at(alloc, said, store, TxnId(txn), place, name)
+    let text = format!(in alloc; "SELECT * FROM {name}")?;
+    let store = copied_front(alloc, house.shelf(), place)?;
+    see_at(alloc, said, store, text.as_str())
 }

@@ -120,7 +120,7 @@ fn step<D: Shelf + Drop>(
     match word {
         "again" => {
             leave_held(desk);
-            open_told(alloc, house.into_house().close(), 0)
+            open_told(alloc, house.into_house().close())
         }
         "among" => among(alloc, house, desk, rest, said),
         _ => {
@@ -154,7 +154,7 @@ pub(crate) fn play<D: Shelf + Drop>(
     lines: &str,
     said: &mut String,
 ) -> io::Result<()> {
-    let mut house = open_told(alloc, store, 0)?;
+    let mut house = open_told(alloc, store)?;
     let mut desk = Desk {
         moves: String::new(alloc),
         hold: None,

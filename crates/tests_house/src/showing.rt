@@ -1,8 +1,8 @@
 //! What is printed of the book and of the files.
 use crate::words::{add, add_number, add_numbers};
-use hv_base::{TableId, TxnId, WriteId};
+use hv_base::{JobId, TableId, TxnId, WriteId};
 use hv_book::Book;
-use hv_history::{Cause, Entry};
+use hv_history::{Cause, Entry, JobCause};
 use hv_shelf::MemoryShelf;
 use std::alloc::Global;
 use std::io;
@@ -30,6 +30,42 @@ fn add_abort(alloc: Global, said: &mut String, txn: TxnId, cause: &Cause) -> io:
     add(said, why)
 }
 
+/// A compaction whose directories stand, with the range that they cover.
+fn add_published(
+    alloc: Global,
+    said: &mut String,
+    job: JobId,
+    low: WriteId,
+    high: WriteId,
+) -> io::Result<()> {
+    add_numbers(alloc, said, "publish ", job.0, " ", low.0)?;
+    add_number(alloc, said, " ", high.0)
+}
+
+/// A compaction that failed, with its cause.
+fn add_failed(alloc: Global, said: &mut String, job: JobId, cause: &JobCause) -> io::Result<()> {
+    add_number(alloc, said, "fail ", job.0)?;
+    let why = match cause {
+        JobCause::Gone => " gone",
+        JobCause::Lost => " lost",
+        _ => " else",
+    };
+    add(said, why)
+}
+
+/// An entry of a compaction in short.
+fn add_job_entry(alloc: Global, said: &mut String, entry: &Entry) -> io::Result<()> {
+    match entry {
+        Entry::Asked { job, table, .. } => { add_numbers(alloc, said, "ask ", job.0, " ", table.0) }
+        Entry::Picked { job, watermark } => {
+            add_numbers(alloc, said, "pick ", job.0, " ", watermark.0)
+        }
+        Entry::Published { job, low, high, .. } => add_published(alloc, said, *job, *low, *high),
+        Entry::Failed { job, cause } => add_failed(alloc, said, *job, cause),
+        _ => add(said, "else"),
+    }
+}
+
 /// An entry in short.
 fn add_entry(alloc: Global, said: &mut String, entry: &Entry) -> io::Result<()> {
     match entry {
@@ -42,7 +78,8 @@ fn add_entry(alloc: Global, said: &mut String, entry: &Entry) -> io::Result<()> 
         }
         Entry::Abort { txn, cause } => add_abort(alloc, said, *txn, cause),
         Entry::Create { txn, table } => { add_numbers(alloc, said, "create ", txn.0, " ", table.0) }
-        _ => add(said, "else"),
+        Entry::Drop { txn, table } => add_numbers(alloc, said, "drop ", txn.0, " ", table.0),
+        _ => add_job_entry(alloc, said, entry),
     }
 }
 

@@ -6,6 +6,7 @@ use crate::house::{boot, leave};
 use crate::words::{cut, number};
 use hv_base::{Limits, NoMemory, TableId, Text};
 use hv_house::House;
+use hv_journal::next_record;
 use hv_shelf::{MemoryShelf, Place, Shelf};
 use std::alloc::Global;
 use std::io;
@@ -44,12 +45,12 @@ pub(crate) fn kept(
     }
 }
 
-/// A store with the same journal and the same files.
-pub(crate) fn copied(alloc: Global, store: &MemoryShelf) -> io::Result<MemoryShelf> {
+/// A store with this journal, and with the files of another one.
+fn with_journal(alloc: Global, journal: &[u8], store: &MemoryShelf) -> io::Result<MemoryShelf> {
     let Ok(mut copy) = MemoryShelf::new(alloc, Vec::new(alloc)) else {
         return Err(ErrorKind::OutOfMemory.into());
     };
-    let mut whole = copy.journal_write(0, store.journal()).is_ok();
+    let mut whole = copy.journal_write(0, journal).is_ok();
     for (place, bytes) in store.files() {
         whole &= copy.put(place, bytes.as_slice()).is_ok();
     }
@@ -59,6 +60,43 @@ pub(crate) fn copied(alloc: Global, store: &MemoryShelf) -> io::Result<MemoryShe
         leave(copy);
         Err(ErrorKind::OutOfMemory.into())
     }
+}
+
+/// A store with the same journal and the same files.
+pub(crate) fn copied(alloc: Global, store: &MemoryShelf) -> io::Result<MemoryShelf> {
+    with_journal(alloc, store.journal(), store)
+}
+
+/// What stands in a journal behind its first records, so many.
+fn behind(alloc: Global, journal: &[u8], records: u64) -> io::Result<&[u8]> {
+    let mut rest = journal;
+    for _ in 0..records {
+        match next_record(alloc, rest, 0) {
+            Ok(Some((entry, after))) => {
+                leave(entry);
+                rest = after;
+            }
+            Ok(None) => return Err(ErrorKind::Other.into()),
+            Err(_) => return Err(ErrorKind::Other.into()),
+        }
+    }
+    Ok(rest)
+}
+
+/// A store with the same files, in whose journal the first entries stand alone, so many.
+pub(crate) fn copied_front(
+    alloc: Global,
+    store: &MemoryShelf,
+    entries: u64,
+) -> io::Result<MemoryShelf> {
+    let journal = store.journal();
+    let rest = behind(alloc, journal, entries)?;
+    let front = journal
+        .get(..journal.len().saturating_sub(rest.len()))
+        .unwrap_or(&[]);
+    let mut bytes = Vec::from_slice(alloc, front)?;
+    bytes.push(0)?;
+    with_journal(alloc, &bytes, store)
 }
 
 /// Lays the file of a line into a store, and says whether it stands there: `TABLE PARTITION DIRECTORY BUCKET BYTES`.

@@ -1,11 +1,12 @@
 //! Runs statements that stand a line each: what analysis answers, and where it answers a typed statement
 //! what that comes to over the rows that stand in the tables so far. What is to be printed was worked out
-//! by hand.
+//! by hand. Each query is also run by one worker and by several, over rows that are made for its tables.
 #![tactic(auto)]
 
 mod plan;
 mod show;
 mod tables;
+mod workers;
 
 use hv_analysis::analyse;
 use hv_ast::Stmt;
@@ -15,6 +16,7 @@ use hv_typing::{Logic, TypeFault};
 use std::alloc::Global;
 use std::io;
 use std::io::{BufRead, BufReader};
+use std::thread::Threads;
 use tables::Tables;
 
 fn tree(alloc: Global, line: &str) -> Result<Option<Boxed<Stmt>>, NoMemory> {
@@ -30,7 +32,8 @@ fn analysed(alloc: Global, stmt: &Stmt, tables: &Tables) -> Result<Boxed<Logic>,
 }
 
 /// What a line comes to, added to `out`.
-fn answer(
+fn answer<R: Threads + Sync>(
+    rt: &R,
     alloc: Global,
     line: &str,
     tables: &mut Tables,
@@ -42,7 +45,7 @@ fn answer(
     match analysed(alloc, stmt.get(), tables) {
         Err(TypeFault::NoMemory) => Err(NoMemory),
         Err(TypeFault::Refused(refusal)) => show::refusal(alloc, refusal, out),
-        Ok(logic) => tables.run(alloc, logic, out),
+        Ok(logic) => tables.run(rt, alloc, logic, out),
     }
 }
 
@@ -52,7 +55,7 @@ fn main(rt: HostRuntime) -> io::Result<()> {
     for line in BufReader::new(alloc, rt.reader())?.lines(alloc) {
         let line = line?;
         let mut out = Vec::new(alloc);
-        if answer(alloc, line.as_str(), &mut tables, &mut out).is_err() {
+        if answer(&rt, alloc, line.as_str(), &mut tables, &mut out).is_err() {
             return println!(rt; "no memory");
         }
         match str::from_utf8(&out) {
@@ -60,5 +63,8 @@ fn main(rt: HostRuntime) -> io::Result<()> {
             Err(_) => println!(rt; "no text")?,
         }
     }
-    Ok(())
+    println!(rt;
+        "by 1, 3 and 8 workers: the same rows of {} queries",
+        tables.same()
+    )
 }

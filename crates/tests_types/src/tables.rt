@@ -2,6 +2,7 @@
 
 use crate::plan::{plan, values};
 use crate::show;
+use crate::workers::are_same;
 use hv_base::{Boxed, List, NoMemory, TableId};
 use hv_eval::eval;
 use hv_expr::TypedExpr;
@@ -12,6 +13,7 @@ use hv_typing::{
 };
 use hv_value::{Row, Value};
 use std::alloc::Global;
+use std::thread::Threads;
 
 #[derive(Drop)]
 pub(crate) struct Tables {
@@ -19,6 +21,8 @@ pub(crate) struct Tables {
     rows: Vec<Vec<Row>>,
     /// How many tables were made.
     count: u64,
+    /// How many queries have the same rows by several workers.
+    same: u64,
 }
 
 fn evaluated(alloc: Global, exprs: &List<TypedExpr>, row: &Row) -> Result<Row, NoMemory> {
@@ -101,7 +105,12 @@ impl Tables {
             infos: Vec::new(alloc),
             rows: Vec::new(alloc),
             count: 0,
+            same: 0,
         }
+    }
+
+    pub(crate) fn same(&self) -> u64 {
+        self.same
     }
 
     pub(crate) fn infos(&self) -> &[TableInfo] {
@@ -206,8 +215,24 @@ impl Tables {
         }
     }
 
-    pub(crate) fn run(
+    // Says where several workers make other rows.
+    fn by_workers<R: Threads + Sync>(
         &mut self,
+        rt: &R,
+        alloc: Global,
+        query: &TypedQuery,
+        out: &mut Vec<u8>,
+    ) -> Result<(), NoMemory> {
+        if are_same(rt, alloc, query, &self.infos)? {
+            self.same = self.same.saturating_add(1);
+            return Ok(());
+        }
+        Ok(out.extend_from_slice(b" other rows by several workers")?)
+    }
+
+    pub(crate) fn run<R: Threads + Sync>(
+        &mut self,
+        rt: &R,
         alloc: Global,
         logic: Boxed<Logic>,
         out: &mut Vec<u8>,
@@ -225,7 +250,10 @@ impl Tables {
             }
             Logic::Change(change) => self.change(alloc, &change, out),
             Logic::Merge(merge) => merged(alloc, &merge.clauses, out),
-            Logic::Query(query) => self.query(alloc, &query, out),
+            Logic::Query(query) => {
+                self.query(alloc, &query, out)?;
+                self.by_workers(rt, alloc, &query, out)
+            }
         }
     }
 }

@@ -1,5 +1,5 @@
 use Rattle.hv_base.proofs.ToldLemmas.{stays_same}
-use Rattle.std.proofs.Common.{◌≤◌, ap, refl, ◌∙◌, arith}
+use Rattle.std.proofs.Common.{◌≤◌, inl, ap, refl, ◌∙◌, arith}
 use Rattle.hv_history.specs.Legal.{profile}
 use Rattle.hv_session.specs.hv_steps.specs.hv_table_reader.specs.hv_acts.specs.hv_telling.proofs.Opening.{opened-is-whole}
 use Rattle.hv_session.specs.hv_steps.specs.hv_table_reader.specs.hv_acts.specs.hv_telling.specs.hv_house.proofs.Hards.{opened_shuts}
@@ -16,11 +16,11 @@ use Rattle.hv_program.proofs.program.serve.Goals as goal
 pub run-ran-requires-clause-whole : goal.run-ran-requires-clause-whole
 run-ran-requires-clause-whole g c =
     again c.in-Ok.house c.new-told.result.house c.new-told.ensures.house (λ h. IsWhole g.D.Shelf.told h)
-    (opened-is-whole g.D.Shelf.told c.args.shelf c.in-Ok.house c.in-Ok.ensures.ready c.in-Ok.ensures.opened c.in-Ok.ensures.over c.in-Ok.ensures.tree)
+    (opened-is-whole g.D.Shelf.told c.args.shelf c.in-Ok.house c.in-Ok.ensures.ready c.in-Ok.ensures.opened c.in-Ok.ensures.over c.in-Ok.ensures.whole)
 
 pub new-told-requires : goal.new-told-requires
 new-told-requires g c = record {
-  whole = opened-is-whole g.D.Shelf.told c.args.shelf c.in-Ok.house c.in-Ok.ensures.ready c.in-Ok.ensures.opened c.in-Ok.ensures.over c.in-Ok.ensures.tree;
+  whole = opened-is-whole g.D.Shelf.told c.args.shelf c.in-Ok.house c.in-Ok.ensures.ready c.in-Ok.ensures.opened c.in-Ok.ensures.over c.in-Ok.ensures.whole;
   shuts = opened_shuts g.D.Shelf.hard c.args.shelf c.in-Ok.house c.in-Ok.ensures.over c.in-Ok.ensures.ready.kept.running c.in-Ok.ensures.hard_later;
 }
 
@@ -41,28 +41,29 @@ returns-in-Ok g c =
           opened over c.run-ran.ensures.start c.run-ran.ensures.whole c.run-ran.ensures.prints c.run-ran.ensures.halts c.run-ran.ensures.heard;
       opened = opens-run c.run-ran.result _ _ _ _ _ (entries_of told_house) c.status_of.ensures.value opened c.run-ran.ensures.why;
       blames = blames-run c.run-ran.result _ _ _ _ _ _ _ c.status_of.ensures.value later (ap g.D.Shelf.faults shelf_is) c.run-ran.ensures.blames;
-      hard = hard-run g.D.Shelf.hard c.args.shelf told_house c.run-ran.new.house c.run-ran.result _ _ c.status_of.ensures.value (ap g.D.Shelf.hard shelf_is) over
-          c.run-ran.ensures.start c.run-ran.ensures.shut c.run-ran.ensures.hard;
+      hard = λ e.
+          inl (hard-run g.D.Shelf.hard c.args.shelf told_house c.run-ran.new.house c.run-ran.result _ _ c.status_of.ensures.value (ap g.D.Shelf.hard shelf_is) over
+          c.run-ran.ensures.start c.run-ran.ensures.shut c.run-ran.ensures.hard e);
       heard = c.run-ran.ensures.heard;
     }
 
 pub returns-in-Err-Store-default : goal.returns-in-Err-Store-default
 returns-in-Err-Store-default g c = record {
   served = Serves-store _ _ _ _ _ _ _ _ c.status.ensures c.in-Err-Store-default.field-0-0-is c.in-Err-Store-default.ensures.same_tree c.in-Err-Store-default.ensures.stopped
-      c.in-Err-Store-default.ensures.roomy;
+      c.in-Err-Store-default.ensures.still;
   opened = opens-store _ _ _ _ _ c.status.ensures;
   blames = blames-store _ _ _ _ _ c.status.ensures c.in-Err-Store-default.field-0-0-is c.in-Err-Store-default.ensures.cause.failed;
-  hard = hard-store _ _ _ _ c.in-Err-Store-default.field-0-0-is c.in-Err-Store-default.ensures.hard.failed;
+  hard = hard-store _ _ _ _ _ _ c.in-Err-Store-default.field-0-0-is c.in-Err-Store-default.ensures.hard.failed;
   heard = stays_same _;
 }
 
 pub returns-in-Err-NoMemory-default : goal.returns-in-Err-NoMemory-default
 returns-in-Err-NoMemory-default g c = record {
   served = Serves-memory _ _ _ _ _ _ _ _ c.status-in-Err-NoMemory-default.ensures c.in-Err-NoMemory-default.field-0-0-is c.in-Err-NoMemory-default.ensures.same_tree c.in-Err-NoMemory-default.ensures.stopped
-      c.in-Err-NoMemory-default.ensures.roomy;
+      c.in-Err-NoMemory-default.ensures.still;
   opened = opens-memory _ _ _ _ _ c.status-in-Err-NoMemory-default.ensures;
   blames = blames-memory _ _ _ _ c.status-in-Err-NoMemory-default.ensures;
-  hard = hard-memory _ _ _ c.status-in-Err-NoMemory-default.ensures;
+  hard = hard-memory _ _ _ _ _ c.status-in-Err-NoMemory-default.ensures;
   heard = stays_same _;
 }
 
@@ -80,7 +81,7 @@ returns-in-Err-BadJournal-default-clause-opened g c =
     opens-bad _ _ _ _ _ _ _ _ _ c.in-Err-BadJournal-default.field-0-0-is c.in-Err-BadJournal-default.ensures.bad c.bad_journal.ensures.said
 
 pub returns-in-Err-Full-default-clause-hard : goal.returns-in-Err-Full-default-clause-hard
-returns-in-Err-Full-default-clause-hard g c = hard-said _ 9 _ _ _ _ _ _ _ (λ e. omega (arith, e)) c.full_journal.ensures.said
+returns-in-Err-Full-default-clause-hard g c = hard-said _ 9 _ _ _ _ _ _ _ _ _ (λ e. omega (arith, e)) c.full_journal.ensures.said
 
 pub returns-in-Err-BadJournal-default-clause-hard : goal.returns-in-Err-BadJournal-default-clause-hard
-returns-in-Err-BadJournal-default-clause-hard g c = hard-said-or-not _ 6 _ _ _ _ _ _ _ (λ e. omega (arith, e)) c.bad_journal.ensures.said
+returns-in-Err-BadJournal-default-clause-hard g c = hard-said-or-not _ 6 _ _ _ _ _ _ _ _ _ (λ e. omega (arith, e)) c.bad_journal.ensures.said

@@ -6,7 +6,7 @@ use Rattle.hv_program.specs.declared.stop.Stop.TheVariants as stop
 use Rattle.hv_program.specs.Keeping.{standing_of}
 use Rattle.hv_program.specs.Stops.{ShutsFor}
 use Rattle.hv_program.proofs.Blaming.{passed_up, shut-passed}
-use Rattle.hv_program.proofs.Turns.{Prints-next, Prints-all, Halts-stopped, Halts-cut}
+use Rattle.hv_program.proofs.Turns.{Prints-next, Prints-all, Halts-stopped, Halts-cut, stops-ends}
 use Rattle.hv_program.proofs.run.run.Goals as goal
 
 pub loop-action-preserved : goal.loop-action-preserved
@@ -31,7 +31,7 @@ pub returns-in_err-reply-clause-halts : goal.returns-in_err-reply-clause-halts
 returns-in_err-reply-clause-halts g c = λ is.
     let here = told-stays g.D.Shelf.told c.args.house.now.house c.loop-action.house.house c.loop-action.invariant.start is in
     Halts-stopped g.D.Shelf.told c.in_err-reply.field-0.0 c.from_residual.result _ _ _ _ c.loop-action.house.house c.act.new.house.house c.loop-action.held.items c.args.actions.now
-    c.loop-action.action-index _ _ _ _ c.from_residual.ensures.1 c.loop-action.invariant.later_store c.in_err-reply.ensures.cause.later c.in_err-reply.ensures.ends
+    c.loop-action.action-index _ _ _ _ c.from_residual.ensures.1 c.loop-action.invariant.later_store c.in_err-reply.ensures.cause.later
     c.loop-action-test.true c.action-item.is (c.loop-action.invariant.prints is) c.loop-action.invariant.whole here
     c.in_err-reply.ensures.stopped (c.in_err-reply.ensures.opens here)
 
@@ -50,7 +50,8 @@ returns-clause-prints g c = λ is.
 
 pub returns-in_err-reply-clause-shut : goal.returns-in_err-reply-clause-shut
 returns-in_err-reply-clause-shut g c =
-    shut-passed c.act.new.house c.in_err-reply.field-0.0 c.from_residual.result c.from_residual.ensures.1 c.in_err-reply.ensures.ends c.in_err-reply.ensures.shut
+    shut-passed c.act.new.house c.in_err-reply.field-0.0 c.from_residual.result c.from_residual.ensures.1
+    (stops-ends c.in_err-reply.field-0.0 _ _ _ _ c.in_err-reply.ensures.stopped) c.in_err-reply.ensures.shut
 
 pub returns-in_err-write_all-clause-shut : goal.returns-in_err-write_all-clause-shut
 returns-in_err-write_all-clause-shut g c =

@@ -1,6 +1,6 @@
 use Rattle.hv_steps.specs.hv_table_reader.specs.hv_acts.specs.hv_telling.specs.hv_house.specs.House.{entries_of}
 use Rattle.hv_steps.specs.Going.{faults_in}
-use Rattle.hv_session.proofs.Finishings.{said-finished, unsaid-held, said-goes, replied-goes, ends-replied, said-truly, replied-truly, replied-finished, held-some}
+use Rattle.hv_session.proofs.Finishings.{said-finished, unsaid-held, said-goes, replied-goes, said-truly, replied-truly, replied-finished, held-some}
 use Rattle.hv_session.proofs.finishing.finish_unless.Goals as goal
 
 pub returns-in-Some-clause-goes : goal.returns-in-Some-clause-goes
@@ -33,6 +33,3 @@ returns-in-None-clause-alone g c = λ alone told stands.
     let held = unsaid-held g.D.Shelf.told before c.args.paused c.args.said c.in-None.is c.requires.says stands in
     replied-finished (entries_of before.house) (entries_of now.house) c.args.paused.way.txn.0 c.go_on.result c.replied.result c.replied.ensures.replied
     ((c.go_on.ensures.alone alone (held-some (entries_of before.house) c.args.paused held) (λ is. held)).truly told)
-
-pub returns-in-None-clause-ends : goal.returns-in-None-clause-ends
-returns-in-None-clause-ends g c = ends-replied c.go_on.result c.replied.result c.replied.ensures.replied c.go_on.ensures.ends

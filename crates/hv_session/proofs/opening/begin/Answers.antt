@@ -20,9 +20,6 @@ returns-in-Ok-clause-begins g c = λ said runs.
 pub returns-in-Ok-clause-halts : goal.returns-in-Ok-clause-halts
 returns-in-Ok-clause-halts g c = c.begin_or_open.ensures.goes.halted
 
-pub returns-in-Ok-clause-ends : goal.returns-in-Ok-clause-ends
-returns-in-Ok-clause-ends g c = c.begin_or_open.ensures.goes.ends
-
 pub returns-in-Err-clause-begins : goal.returns-in-Err-clause-begins
 returns-in-Err-clause-begins g c = λ said runs.
     nothing-gained g.D.Shelf.told g.D.Shelf.faults g.W.Actor.between g.met.W.Actor.rows g.W.Actor.meanwhile g.met.W.Actor.goes_on

@@ -1,7 +1,7 @@
 use Rattle.hv_table_reader.specs.hv_acts.specs.Told.{trail_in}
 use Rattle.hv_steps.specs.Going.{faults_in}
 use Rattle.hv_steps.proofs.Joining.{adds-front, opened-lasts}
-use Rattle.hv_steps.proofs.AsksMade.{all-asked, stopped-asking, stopped-ends, stopped-asked}
+use Rattle.hv_steps.proofs.AsksMade.{all-asked, stopped-asking, stopped-asked}
 use Rattle.hv_steps.proofs.asking.ask_listed.Goals as goal
 
 pub returns-in-Ok-clause-goes : goal.returns-in-Ok-clause-goes
@@ -30,6 +30,3 @@ returns-in-Err-clause-goes g c =
 pub returns-in-Err-clause-asked : goal.returns-in-Err-clause-asked
 returns-in-Err-clause-asked g c =
     stopped-asked (g.W.Actor.house c.end_without.new.actor) c.args.way c.args.numbers.now c.end_without.result c.stopped.result c.stopped.ensures
-
-pub returns-in-Err-clause-ends : goal.returns-in-Err-clause-ends
-returns-in-Err-clause-ends g c = stopped-ends c.end_without.result c.stopped.result c.stopped.ensures c.end_without.ensures.ends

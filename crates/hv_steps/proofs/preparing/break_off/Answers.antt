@@ -1,11 +1,7 @@
-use Rattle.std.proofs.Common.{◌∙◌, sym, subst, Result}
-use Rattle.std.specs.Prelude.{IfErr}
-use Rattle.hv_table_reader.specs.hv_acts.specs.hv_telling.specs.hv_house.specs.declared.fault.HouseFault.{HouseFault}
-use Rattle.hv_table_reader.specs.hv_acts.specs.hv_telling.specs.hv_house.specs.Faults.{EndsRun}
+use Rattle.std.proofs.Common.{◌∙◌, sym, subst}
 use Rattle.hv_steps.proofs.Shorts.{short_fault}
-use Rattle.hv_steps.specs.declared.reply.Prepared.{Prepared}
 use Rattle.hv_steps.specs.Preparing.{IsFaultOf, IsRefusal}
-use Rattle.hv_steps.proofs.Parts.{failed-none, failed-some, goes-failed, goes-lacking, ended-ends}
+use Rattle.hv_steps.proofs.Parts.{failed-none, failed-some, goes-failed, goes-lacking}
 use Rattle.hv_steps.proofs.preparing.break_off.Goals as goal
 
 pub withdraw-requires-clause-running : goal.withdraw-requires-clause-running
@@ -42,7 +38,3 @@ returns-in-None-clause-broken g c = λ low down refusal.
     let b = g.W.Actor.house c.end_without.new.actor in
     goes-lacking g.D.Shelf.told g.D.Shelf.faults g.W.Actor.between g.met.W.Actor.rows g.W.Actor.meanwhile c.args.txn.0 low (g.W.Actor.own c.args.actor.now)
     (g.W.Actor.own c.end_without.new.actor) a b (IsFaultOf c.args.why) c.end_without.result c.ended.result c.ended.ensures (c.end_without.ensures.goes low)
-
-pub returns-in-None-clause-ends : goal.returns-in-None-clause-ends
-returns-in-None-clause-ends g c =
-    subst (λ (r : Result Prepared HouseFault). IfErr r EndsRun) (sym c.ended.ensures) (ended-ends c.end_without.result c.end_without.ensures.ends)

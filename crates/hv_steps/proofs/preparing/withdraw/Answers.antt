@@ -1,12 +1,11 @@
 use Rattle.std.proofs.Common.{Result, sym, subst}
 use Rattle.hv_history.specs.declared.entry.Cause.{Cause}
 use Rattle.hv_table_reader.specs.hv_acts.specs.hv_telling.specs.hv_house.specs.declared.fault.HouseFault.{HouseFault}
-use Rattle.hv_table_reader.specs.hv_acts.specs.hv_telling.specs.hv_house.specs.Faults.{EndsRun}
-use Rattle.std.specs.Prelude.{IfErr, ◌≡◌}
+use Rattle.std.specs.Prelude.{◌≡◌}
 use Rattle.hv_steps.specs.declared.reply.Prepared.{Prepared}
 use Rattle.hv_steps.specs.Going.{Goes}
 use Rattle.hv_steps.specs.Preparing.{EndsFor}
-use Rattle.hv_steps.proofs.Parts.{goes-ended, ended-ends}
+use Rattle.hv_steps.proofs.Parts.{goes-ended}
 use Rattle.hv_actor.specs.Acting.{among, known}
 use Rattle.hv_steps.proofs.preparing.withdraw.Goals as goal
 
@@ -22,6 +21,3 @@ returns-clause-goes g c = λ low down keeps.
     (sym c.ended.ensures)
     (goes-ended g.D.Shelf.told g.D.Shelf.faults g.W.Actor.between g.met.W.Actor.rows g.W.Actor.meanwhile c.args.txn.0 low own own' a b P c.refuse.result
     (c.refuse.ensures.goes low down keeps))
-
-pub returns-clause-ends : goal.returns-clause-ends
-returns-clause-ends g c = subst (λ (r : Result Prepared HouseFault). IfErr r EndsRun) (sym c.ended.ensures) (ended-ends c.refuse.result c.refuse.ensures.ends)

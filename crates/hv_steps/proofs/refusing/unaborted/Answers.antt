@@ -20,6 +20,3 @@ returns-in-House-clause-goes g c = λ low.
     failed-goes g.D.Shelf.told g.D.Shelf.faults g.W.Actor.between g.met.W.Actor.rows g.W.Actor.meanwhile low c.args.txn.0 own own house house NoCause
     c.in-House.fault (adds-none g.D.Shelf.faults g.W.Actor.between g.met.W.Actor.rows own house)
     (subst (IsLeftFor g.D.Shelf.told g.W.Actor.meanwhile c.args.txn.0 house) c.in-House.is c.requires.left) (subst EndsAct c.in-House.is c.requires.ends)
-
-pub returns-in-House-clause-ends : goal.returns-in-House-clause-ends
-returns-in-House-clause-ends g c = subst EndsAct c.in-House.is c.requires.ends

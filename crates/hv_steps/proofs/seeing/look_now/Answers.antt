@@ -13,4 +13,4 @@ returns-clause-seen g c =
     let e = c.see_table.ensures in
     looks-seen g.D.Shelf.told g.D.Shelf.faults g.W.Actor.between g.met.W.Actor.rows
     (g.W.Actor.own c.args.actor.now) (g.W.Actor.own c.see_table.new.actor) (g.W.Actor.house c.args.actor.now) (g.W.Actor.house c.see_table.new.actor)
-    c.args.place c.args.reads c.args.name.now c.see_table.result e.adds c.requires.place (g.met.W.Actor.kept c.see_table.new.actor e.keeps) e.running e.seen
+    c.args.place c.args.reads c.args.name.now c.see_table.result e.adds c.requires.reader.has e.seen

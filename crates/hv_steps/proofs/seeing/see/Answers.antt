@@ -1,12 +1,8 @@
 use Rattle.hv_steps.proofs.Joining.{adds-front, opened-lasts, on-way-opened}
-use Rattle.hv_steps.proofs.Unseen.{way-place, goes-meaning, goes-ended}
+use Rattle.hv_steps.proofs.Unseen.{goes-meaning, goes-ended}
 use Rattle.hv_steps.proofs.seeing.see.Goals as goal
 use Rattle.hv_table_reader.specs.hv_acts.specs.Told.{trail_in}
 use Rattle.std.proofs.Common.{[]}
-
-pub see_meaning-requires-clause-place : goal.see_meaning-requires-clause-place
-see_meaning-requires-clause-place g c =
-    way-place (trail_in (g.W.Actor.house c.args.actor.now)) c.requires.was.0 c.args.way c.args.tree.now c.requires.was.1
 
 pub see_meaning-requires-clause-built : goal.see_meaning-requires-clause-built
 see_meaning-requires-clause-built g c = c.requires.was.1.was.runs.built

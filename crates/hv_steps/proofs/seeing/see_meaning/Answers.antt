@@ -1,17 +1,29 @@
-use Rattle.std.proofs.Common.{Ok, sym, ap, ◌∙◌}
+use Rattle.std.proofs.Common.{[], Ok, sym, ap, ◌∙◌}
 use Rattle.hv_history.specs.State.{State}
 use Rattle.hv_history.specs.Shown.{listed_for}
+use Rattle.hv_table_reader.specs.hv_acts.specs.Told.{trail_in}
+use Rattle.hv_steps.proofs.Joining.{adds-front, way-lasts}
 use Rattle.hv_steps.proofs.Looks.{house-fits, place-later, states-same, looks-done, looks-lack, looks-failed, looks-behind}
 use Rattle.hv_steps.proofs.SeenMeanings.{means-something, comes-to}
+use Rattle.hv_steps.proofs.Unseen.{way-place}
 use Rattle.hv_steps.proofs.seeing.see_meaning.Goals as goal
+
+pub shown-requires-clause-place : goal.shown-requires-clause-place
+shown-requires-clause-place g c =
+    way-place (trail_in (g.W.Actor.house c.args.actor.now)) c.requires.was.0 c.args.way c.args.tree.now c.requires.was.1
 
 pub seen-requires-clause-running : goal.seen-requires-clause-running
 seen-requires-clause-running g c = c.in_ok-shown.ensures.looks.running
 
-pub seen-requires-clause-place : goal.seen-requires-clause-place
-seen-requires-clause-place g c =
-    place-later g.D.Shelf.told g.D.Shelf.faults g.W.Actor.between g.met.W.Actor.rows (g.W.Actor.own c.args.actor.now) (g.W.Actor.own c.shown.new.actor)
-    (g.W.Actor.house c.args.actor.now) (g.W.Actor.house c.shown.new.actor) c.args.way.place c.in_ok-shown.ensures.looks.adds c.requires.place
+pub seen-requires-clause-was : goal.seen-requires-clause-was
+seen-requires-clause-was g c =
+    let before = g.W.Actor.house c.args.actor.now in
+    let now = g.W.Actor.house c.shown.new.actor in (
+      c.requires.was.0,
+      way-lasts c.requires.was.0 c.args.way c.args.tree.now (trail_in before) (trail_in now)
+          (adds-front g.D.Shelf.faults g.W.Actor.between g.met.W.Actor.rows (g.W.Actor.own c.args.actor.now) (g.W.Actor.own c.shown.new.actor) before now []
+          c.in_ok-shown.ensures.looks.adds) c.requires.was.1,
+    )
 
 pub meaning-requires : goal.meaning-requires
 meaning-requires g c =
@@ -43,7 +55,8 @@ returns-clause-comes g c =
     let now = g.W.Actor.house c.seen.new.actor in
     let has =
     place-later g.D.Shelf.told g.D.Shelf.faults g.W.Actor.between g.met.W.Actor.rows (g.W.Actor.own c.args.actor.now) own
-    (g.W.Actor.house c.args.actor.now) before c.args.way.place c.in_ok-shown.ensures.looks.adds c.requires.place
+    (g.W.Actor.house c.args.actor.now) before c.args.way.place c.in_ok-shown.ensures.looks.adds
+    (way-place (trail_in (g.W.Actor.house c.args.actor.now)) c.requires.was.0 c.args.way c.args.tree.now c.requires.was.1)
     in
     comes-to g.D.Shelf.told now c.args.way c.args.tree.now
     (house-fits g.D.Shelf.told now (g.met.W.Actor.kept c.seen.new.actor c.in_ok-tables.ensures.keeps) c.in_ok-tables.ensures.looks.running)

@@ -1,13 +1,24 @@
-use Rattle.std.proofs.Common.{sym, arith, rules}
-use Rattle.hv_steps.proofs.Joining.{adds-none}
-use Rattle.hv_steps.proofs.Looks.{place-later, sees-none, sees-some, sees-next, looks-lack, looks-failed, looks-behind}
+use Rattle.std.proofs.Common.{◌≡◌, [], Bool, List, length, take, refl, sym, ap, ◌∙◌, subst, arith, rules}
+use Rattle.std.specs.Prelude.{slice_get}
+use Rattle.std.proofs.lemmas.List.{take_all}
+use Rattle.std.proofs.lemmas.Option.{slice_get_read}
+use Rattle.hv_locks.specs.declared.table.Lock.{Lock}
+use Rattle.hv_logic.specs.Names.{names_in}
+use Rattle.hv_table_reader.specs.hv_acts.specs.hv_telling.specs.Telling.{IsToldHouse}
+use Rattle.hv_table_reader.specs.hv_acts.specs.Told.{trail_in}
+use Rattle.hv_steps.specs.Seeing.{tables_then, AreSeenAs}
+use Rattle.hv_steps.proofs.Joining.{adds-none, adds-front}
+use Rattle.hv_steps.proofs.Looks.{sees-none, sees-some, sees-next, looks-lack, looks-failed, looks-behind}
+use Rattle.hv_steps.proofs.Unseen.{way-place, way-reader}
 use Rattle.hv_steps.proofs.seeing.seen.Goals as goal
 
 pub loop-i-init : goal.loop-i-init
 loop-i-init g c = (
   c.requires.keeps,
   sees-none g.D.Shelf.told g.D.Shelf.faults g.W.Actor.between g.met.W.Actor.rows (g.W.Actor.own c.args.actor.now) (g.W.Actor.house c.args.actor.now) c.args.way.place
-      c.reads_rows-reads.result c.in_ok-names.names.items c.requires.place c.new-seen.result.items (search rules) c.requires.running,
+      c.reads_rows-reads.result c.in_ok-names.names.items
+      (way-place (trail_in (g.W.Actor.house c.args.actor.now)) c.requires.was.0 c.args.way c.args.tree.now c.requires.was.1)
+      c.new-seen.result.items (search rules) c.requires.running,
 )
 
 pub see_next-requires : goal.see_next-requires
@@ -20,11 +31,15 @@ see_next-requires g c =
     record {
       keeps = c.loop-i.invariant.0;
       running = sees.running;
-      place = place-later g.D.Shelf.told g.D.Shelf.faults g.W.Actor.between g.met.W.Actor.rows own own' first now c.args.way.place sees.adds c.requires.place;
+      reader = way-reader (trail_in first) (trail_in now) c.requires.was.0 c.args.way c.args.tree.now c.loop-i.i c.index.result.now c.requires.was.1
+          (adds-front g.D.Shelf.faults g.W.Actor.between g.met.W.Actor.rows own own' first now [] sees.adds)
+          (ap (λ (locks : List Lock). slice_get locks c.loop-i.i) (sym c.in_ok-names.ensures.names)
+          ∙ slice_get_read c.in_ok-names.names.items (length c.in_ok-names.names.items) c.loop-i.i c.index.result.now refl
+          (omega (arith, c.loop-i-test.true, c.len-i-end.ensures)) c.index.ensures);
       seen = (
         _,
         sees-some g.D.Shelf.told g.D.Shelf.faults g.W.Actor.between g.met.W.Actor.rows own first c.args.way.place c.reads_rows-reads.result c.in_ok-names.names.items
-            c.requires.place own' now c.loop-i.i c.loop-i.seen.items sees,
+            (way-place (trail_in (g.W.Actor.house c.args.actor.now)) c.requires.was.0 c.args.way c.args.tree.now c.requires.was.1) own' now c.loop-i.i c.loop-i.seen.items sees,
       );
     }
 
@@ -32,7 +47,8 @@ pub loop-i-preserved : goal.loop-i-preserved
 loop-i-preserved g c = (
   c.in_ok-see_next.ensures.keeps,
   sees-next g.D.Shelf.told g.D.Shelf.faults g.W.Actor.between g.met.W.Actor.rows (g.W.Actor.own c.args.actor.now) (g.W.Actor.house c.args.actor.now) c.args.way.place
-      c.reads_rows-reads.result c.in_ok-names.names.items c.requires.place
+      c.reads_rows-reads.result c.in_ok-names.names.items
+      (way-place (trail_in (g.W.Actor.house c.args.actor.now)) c.requires.was.0 c.args.way c.args.tree.now c.requires.was.1)
       (g.W.Actor.own c.loop-i.actor) (g.W.Actor.own c.see_next.new.actor) (g.W.Actor.house c.loop-i.actor) (g.W.Actor.house c.see_next.new.actor)
       c.loop-i.i c.index.result.now c.loop-i.seen.items c.see_next.new.seen.items
       c.loop-i.invariant.1 (omega (arith, c.loop-i-test.true, c.len-i-end.ensures)) (sym c.index.ensures)
@@ -58,3 +74,20 @@ returns-in_err-see_next-clause-looks g c =
     c.loop-i.invariant.1.adds
     (looks-failed g.D.Shelf.told g.D.Shelf.faults g.W.Actor.between g.met.W.Actor.rows g.W.Actor.meanwhile c.args.way.txn own' own'' before now
     c.in_err-see_next.field-0.0 c.from_residual-in_err-see_next.result c.from_residual-in_err-see_next.ensures.1 c.in_err-see_next.ensures.looks)
+
+pub returns-clause-seen : goal.returns-clause-seen
+returns-clause-seen g c =
+    let own = g.W.Actor.own c.args.actor.now in
+    let first = g.W.Actor.house c.args.actor.now in
+    let own' = g.W.Actor.own c.loop-i.actor in
+    let now = g.W.Actor.house c.loop-i.actor in
+    let names = c.in_ok-names.names.items in
+    let all : take c.loop-i.i names ≡ names = take_all c.loop-i.i names (omega (arith, c.loop-i-test.false, c.len-i-end.ensures)) in
+    subst (λ (reads : Bool).
+    AreSeenAs (IsToldHouse g.D.Shelf.told now.house) reads (tables_then now c.args.way.place) (names_in c.args.tree.now) c.loop-i.seen.items)
+    c.reads_rows-reads.ensures
+    (subst (λ (locks : List Lock).
+    AreSeenAs (IsToldHouse g.D.Shelf.told now.house) c.reads_rows-reads.result (tables_then now c.args.way.place) locks c.loop-i.seen.items)
+    (all ∙ c.in_ok-names.ensures.names)
+    (sees-some g.D.Shelf.told g.D.Shelf.faults g.W.Actor.between g.met.W.Actor.rows own first c.args.way.place c.reads_rows-reads.result names
+    (way-place (trail_in first) c.requires.was.0 c.args.way c.args.tree.now c.requires.was.1) own' now c.loop-i.i c.loop-i.seen.items c.loop-i.invariant.1))

@@ -1,4 +1,4 @@
-use Rattle.hv_steps.proofs.Gone.{end-adds, end-running, end-says, end-house, failed-adds, failed-ends, failed-halts}
+use Rattle.hv_steps.proofs.Gone.{end-adds, end-running, end-says, end-house, failed-adds, failed-halts}
 use Rattle.hv_steps.proofs.telling.tell_end.Goals as goal
 
 pub house_fault-requires : goal.house_fault-requires
@@ -36,11 +36,5 @@ returns-in-Err-clause-adds g c =
 pub returns-in-Err-clause-halts : goal.returns-in-Err-clause-halts
 returns-in-Err-clause-halts g c =
     failed-halts g.D.Shelf.told g.D.Shelf.faults g.W.Actor.between g.W.Actor.meanwhile g.met.W.Actor.goes_on (g.W.Actor.own c.args.actor.now) (g.W.Actor.own c.hold.new.self)
-    (g.W.Actor.house c.args.actor.now) (g.W.Actor.house c.hold.new.self) c.requires.running c.args.txn c.hold.result c.hold.ensures.held c.hold.ensures.went
-    c.in-Err.why c.in-Err.is c.house_fault.result c.house_fault.ensures.fault
-
-pub returns-in-Err-clause-ends : goal.returns-in-Err-clause-ends
-returns-in-Err-clause-ends g c =
-    failed-ends g.D.Shelf.told g.D.Shelf.faults g.W.Actor.between g.W.Actor.meanwhile g.met.W.Actor.goes_on (g.W.Actor.own c.args.actor.now) (g.W.Actor.own c.hold.new.self)
     (g.W.Actor.house c.args.actor.now) (g.W.Actor.house c.hold.new.self) c.requires.running c.args.txn c.hold.result c.hold.ensures.held c.hold.ensures.went
     c.in-Err.why c.in-Err.is c.house_fault.result c.house_fault.ensures.fault

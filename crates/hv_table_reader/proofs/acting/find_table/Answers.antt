@@ -1,6 +1,6 @@
 use Rattle.hv_acts.specs.Reading.{FindAnswers}
 use Rattle.hv_table_reader.proofs.Holds.{asked-done, asked-failed}
-use Rattle.hv_table_reader.proofs.Acts.{place-reached, find-book, find-found, find-moment}
+use Rattle.hv_table_reader.proofs.Acts.{place-reached, find-book, find-found}
 use Rattle.hv_table_reader.proofs.acting.find_table.Goals as goal
 
 pub hold-requires-clause-can : goal.hold-requires-clause-can
@@ -16,17 +16,12 @@ returns-in-Ok-clause-looks g c = λ by.
 pub returns-in-Ok-clause-book : goal.returns-in-Ok-clause-book
 returns-in-Ok-clause-book g c =
     find-book g.D.Shelf.told g.D.Shelf.faults g.W.Actor.meanwhile g.met.W.Actor.goes_on (g.W.Actor.house c.args.actor.now) (g.W.Actor.house c.hold.new.self) c.args.place
-    c.requires.place c.args.name.now c.hold.result c.hold.ensures.held c.in-Ok.found c.in-Ok.is
+    c.args.name.now c.hold.result c.hold.ensures.held c.in-Ok.found c.in-Ok.is
 
 pub returns-in-Ok-clause-found : goal.returns-in-Ok-clause-found
 returns-in-Ok-clause-found g c =
     find-found g.D.Shelf.told g.D.Shelf.faults g.W.Actor.meanwhile g.met.W.Actor.goes_on (g.W.Actor.house c.args.actor.now) (g.W.Actor.house c.hold.new.self) c.args.place
-    c.requires.place c.args.name.now c.hold.result c.hold.ensures.held c.in-Ok.found c.in-Ok.is
-
-pub returns-in-Ok-clause-moment : goal.returns-in-Ok-clause-moment
-returns-in-Ok-clause-moment g c =
-    find-moment g.D.Shelf.told g.D.Shelf.faults g.W.Actor.meanwhile g.met.W.Actor.goes_on (g.W.Actor.house c.args.actor.now) (g.W.Actor.house c.hold.new.self) c.args.place
-    c.requires.place c.args.name.now c.hold.result c.hold.ensures.held c.in-Ok.found c.in-Ok.is
+    c.args.name.now c.hold.result c.hold.ensures.held c.in-Ok.found c.in-Ok.is
 
 pub returns-in-Err-clause-looks : goal.returns-in-Err-clause-looks
 returns-in-Err-clause-looks g c = λ by.

@@ -16,7 +16,7 @@ returns-in-Ok-clause-looks g c = λ by.
 pub returns-in-Ok-clause-shown : goal.returns-in-Ok-clause-shown
 returns-in-Ok-clause-shown g c =
     show-book g.D.Shelf.told g.D.Shelf.faults g.W.Actor.meanwhile g.met.W.Actor.goes_on (g.W.Actor.house c.args.actor.now) (g.W.Actor.house c.hold.new.self) c.args.place
-    c.requires.place c.args.what.now c.hold.result c.hold.ensures.held c.in-Ok.shown c.in-Ok.is
+    c.args.what.now c.hold.result c.hold.ensures.held c.in-Ok.shown c.in-Ok.is
 
 pub returns-in-Err-clause-looks : goal.returns-in-Err-clause-looks
 returns-in-Err-clause-looks g c = λ by.

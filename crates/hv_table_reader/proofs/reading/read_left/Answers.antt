@@ -30,7 +30,7 @@ loop-file-preserved g c =
       c.in_ok-recs.ensures.keeps,
       looks-then g.D.Shelf.told g.D.Shelf.faults g.W.Actor.between g.W.Actor.meanwhile c.args.by g.met.W.Actor.rows own own' own'' first before now (Ok tt) so_far
           (looked g.D.Shelf.told g.D.Shelf.faults g.W.Actor.between g.W.Actor.meanwhile c.args.by own' own'' before now c.in_ok-recs.recs c.in_ok-recs.ensures.looks),
-      reads-on g.D.Shelf.told (seen_in first) (seen_in before) (behind-adds g.D.Shelf.faults g.W.Actor.between own own' first before [] so_far.adds) false c.args.taken.now
+      reads-on g.D.Shelf.told c.args.by (seen_in first) (seen_in before) (behind-adds g.D.Shelf.faults g.W.Actor.between own own' first before [] so_far.adds) false c.args.taken.now
           c.loop-file.file-index file c.loop-file-test.true c.file-item.is (left_in list gone c.args.info.now.shape) c.loop-file.rows.items
           (left_of gone (flat_map (found_with list partition.text partition.values) recs)) c.push_rows.new.rows.items c.loop-file.counts.items c.read_file.new.counts.items recs
           c.loop-file.invariant.3 c.in_ok-recs.ensures.recs
@@ -43,7 +43,7 @@ pub returns-in_err-recs-clause-damage : goal.returns-in_err-recs-clause-damage
 returns-in_err-recs-clause-damage g c =
     let first = g.W.Actor.house c.args.actor.now in
     let before = g.W.Actor.house c.loop-file.actor in
-    damage-up g.D.Shelf.told (seen_in first) (seen_in before)
+    damage-up g.D.Shelf.told c.args.by (seen_in first) (seen_in before)
     (behind-adds g.D.Shelf.faults g.W.Actor.between (g.W.Actor.own c.args.actor.now) (g.W.Actor.own c.loop-file.actor) first before [] c.loop-file.invariant.2.adds) false c.args.taken.now
     c.loop-file.file-index c.file-item.result c.loop-file-test.true c.file-item.is c.from_residual-in_err-recs.result c.in_err-recs.field-0.0 c.from_residual-in_err-recs.ensures.1
     c.in_err-recs.ensures.damage

@@ -15,5 +15,5 @@ invariant-loop-file g l =
     × g.W.Actor.keeps l.actor
     × HasLookedOver (among g.D.Shelf.told g.D.Shelf.faults g.W.Actor.between g.W.Actor.meanwhile) l.fn.by
     (known (g.W.Actor.own l.fn.actor) (g.W.Actor.house l.fn.actor)) (known (g.W.Actor.own l.actor) (g.W.Actor.house l.actor))
-    × ((o : Option Store) → AreSteady g.D.Shelf.told o (seen_in (g.W.Actor.house l.fn.actor)) l.taken
+    × ((o : Option Store) → AreSteady g.D.Shelf.told o l.fn.by (seen_in (g.W.Actor.house l.fn.actor)) l.taken
     → ReadsUpTo o false (take l.file-index l.taken) (left_in l.list l.gone l.info.shape) l.rows.items l.counts.items)

@@ -19,14 +19,14 @@ returns-clause-rows g c = λ o files.
     let listing = c.args.listing.now in
     let next =
     behind-adds g.D.Shelf.faults g.W.Actor.between (g.W.Actor.own c.args.actor.now) (g.W.Actor.own c.deleted_counted.new.actor) before then_ [] c.in_ok-gone.ensures.looks.adds in
-    listed-rows o c.args.info.now listing files.taken c.in_ok-gone.gone.items c.deref-3.result.now c.in_ok-rows.rows.items c.in_ok-once.field-0.items
-    (subst (IsPermutation c.in_ok-gone.gone.items) (sym c.deref-3.ensures.value) c.in_ok-gone-2.ensures.same)
+    listed-rows o c.args.info.now listing files.taken c.in_ok-gone.gone.items c.deref-4.result.now c.in_ok-rows.rows.items c.in_ok-once.field-0.items
+    (subst (IsPermutation c.in_ok-gone.gone.items) (sym c.deref-4.ensures.value) c.in_ok-gone-2.ensures.same)
     (subst (λ (taken : List DirFile). Tells o (λ s. Reads true s.tree taken (deleted_in listing.list) c.in_ok-gone.gone.items)) c.deref.ensures.value
-    (c.in_ok-gone.ensures.rows o (subst (AreSteady g.D.Shelf.told o (seen_in before)) (sym c.deref.ensures.value) files.deletes)))
-    (subst (λ (taken : List DirFile). Tells o (λ s. Reads false s.tree taken (left_in listing.list c.deref-3.result.now c.args.info.now.shape) c.in_ok-rows.rows.items)) c.deref-2.ensures.value
+    (c.in_ok-gone.ensures.rows o (subst (AreSteady g.D.Shelf.told o c.args.by (seen_in before)) (sym c.deref.ensures.value) files.deletes)))
+    (subst (λ (taken : List DirFile). Tells o (λ s. Reads false s.tree taken (left_in listing.list c.deref-4.result.now c.args.info.now.shape) c.in_ok-rows.rows.items)) c.deref-3.ensures.value
     (c.in_ok-rows.ensures.rows o
-    (subst (AreSteady g.D.Shelf.told o (seen_in then_)) (sym c.deref-2.ensures.value)
-    (all-steady-on g.D.Shelf.told o (seen_in before) (seen_in then_) listing.inserts.items next files.inserts))))
+    (subst (AreSteady g.D.Shelf.told o c.args.by (seen_in then_)) (sym c.deref-3.ensures.value)
+    (all-steady-on g.D.Shelf.told o c.args.by (seen_in before) (seen_in then_) listing.inserts.items next files.inserts))))
     c.in_ok-once.ensures
 
 pub returns-in_err-gone-clause-damage : goal.returns-in_err-gone-clause-damage
@@ -37,8 +37,9 @@ returns-in_err-gone-clause-damage g c = λ o others files same.
     let why = c.in_err-gone.field-0.0 in
     err-up (λ w. IsDamage w → Tells o (λ s. IsAmissOf info listing.list s.tree others)) c.from_residual.result why c.from_residual.ensures.1
     (listed-amiss o info listing files.taken true c.args.dues.now others why same
-    (subst (λ (taken : List DirFile). Tells o (λ s. TellsKind true info.table.0 s.tree taken c.args.dues.now why)) c.deref.ensures.value
-    (c.in_err-gone.ensures.damage o (subst (AreSteady g.D.Shelf.told o (seen_in before)) (sym c.deref.ensures.value) files.deletes))))
+    (subst (λ (taken : List DirFile). Tells o (λ s. TellsKind true info.table.0 s.tree taken listing.inserts.items c.args.dues.now why)) c.deref.ensures.value
+    (subst (λ (beside : List DirFile). Tells o (λ s. TellsKind true info.table.0 s.tree c.deref.result.now beside c.args.dues.now why)) c.deref-2.ensures.value
+    (c.in_err-gone.ensures.damage o (subst (AreSteady g.D.Shelf.told o c.args.by (seen_in before)) (sym c.deref.ensures.value) files.deletes)))))
 
 pub returns-in_err-rows-clause-damage : goal.returns-in_err-rows-clause-damage
 returns-in_err-rows-clause-damage g c = λ o others files same.
@@ -51,10 +52,10 @@ returns-in_err-rows-clause-damage g c = λ o others files same.
     behind-adds g.D.Shelf.faults g.W.Actor.between (g.W.Actor.own c.args.actor.now) (g.W.Actor.own c.deleted_counted.new.actor) before then_ [] c.in_ok-gone.ensures.looks.adds in
     err-up (λ w. IsDamage w → Tells o (λ s. IsAmissOf info listing.list s.tree others)) c.from_residual-in_err-rows.result why c.from_residual-in_err-rows.ensures.1
     (listed-amiss o info listing files.taken false c.args.dues.now others why same
-    (subst (λ (taken : List DirFile). Tells o (λ s. TellsKind false info.table.0 s.tree taken c.args.dues.now why)) c.deref-2.ensures.value
+    (subst (λ (taken : List DirFile). Tells o (λ s. TellsKind false info.table.0 s.tree taken taken c.args.dues.now why)) c.deref-3.ensures.value
     (c.in_err-rows.ensures.damage o
-    (subst (AreSteady g.D.Shelf.told o (seen_in then_)) (sym c.deref-2.ensures.value)
-    (all-steady-on g.D.Shelf.told o (seen_in before) (seen_in then_) listing.inserts.items next files.inserts)))))
+    (subst (AreSteady g.D.Shelf.told o c.args.by (seen_in then_)) (sym c.deref-3.ensures.value)
+    (all-steady-on g.D.Shelf.told o c.args.by (seen_in before) (seen_in then_) listing.inserts.items next files.inserts)))))
 
 pub returns-clause-looks : goal.returns-clause-looks
 returns-clause-looks g c =

@@ -17,7 +17,7 @@ count_dues-requires-clause-place g c =
     let now = g.W.Actor.house c.list_table.new.actor in
     place-lasts (trail_in before) (trail_in now)
     (behind-adds g.D.Shelf.faults g.W.Actor.between (g.W.Actor.own c.args.actor.now) (g.W.Actor.own c.list_table.new.actor) before now []
-    c.in_ok-listing.ensures.looks.adds).front c.args.place c.requires.place
+    c.in_ok-listing.ensures.looks.adds).front c.args.place c.requires.reads.reader.has
 
 pub read_listed-requires-clause-running : goal.read_listed-requires-clause-running
 read_listed-requires-clause-running g c = (c.in_ok-dues.ensures.looks c.args.by).running
@@ -49,10 +49,10 @@ returns-clause-rows g c = λ told.
     (c.in_ok-dues.ensures.looks c.args.by).adds in
     let last =
     behind-adds g.D.Shelf.faults g.W.Actor.between (g.W.Actor.own c.count_dues.new.actor) (g.W.Actor.own c.read_listed.new.actor) counted now [] c.read_listed.ensures.looks.adds in
-    all-rows-then g.D.Shelf.told listed c.args.place c.args.info.now c.in_ok-listing.listing is (book_in now)
+    all-rows-then g.D.Shelf.told listed c.args.by c.args.place c.args.info.now c.in_ok-listing.listing is (book_in now)
     (book-front (trail_in listed) (trail_in now) (behind-more (seen_in listed) (seen_in counted) (seen_in now) next last).front) c.read_listed.result
     (c.read_listed.ensures.rows (Some is.store)
-    (listed-on g.D.Shelf.told (Some is.store) (seen_in listed) (seen_in counted) c.args.info.now c.in_ok-listing.listing next is.files))
+    (listed-on g.D.Shelf.told (Some is.store) c.args.by (seen_in listed) (seen_in counted) c.args.info.now c.in_ok-listing.listing next is.files))
 
 pub returns-clause-undamaged : goal.returns-clause-undamaged
 returns-clause-undamaged g c = λ told.
@@ -67,11 +67,11 @@ returns-clause-undamaged g c = λ told.
     behind-adds g.D.Shelf.faults g.W.Actor.between (g.W.Actor.own c.list_table.new.actor) (g.W.Actor.own c.count_dues.new.actor) listed counted []
     (c.in_ok-dues.ensures.looks c.args.by).adds in
     undamaged (IsAmissOf info listing.list is.store.tree others) c.read_listed.result
-    (c.read_listed.ensures.damage (Some is.store) others (listed-on g.D.Shelf.told (Some is.store) (seen_in listed) (seen_in counted) info listing next is.files)
+    (c.read_listed.ensures.damage (Some is.store) others (listed-on g.D.Shelf.told (Some is.store) c.args.by (seen_in listed) (seen_in counted) info listing next is.files)
     (subst (λ (dues : List Due). AreAsMany dues others) (sym c.deref.ensures.value)
     (dues-at (trail_in counted) is.book place info.table c.in_ok-dues.dues.items
-    (front-more is.book (book_in listed) (book_in counted) is.moment.front (book-front (trail_in listed) (trail_in counted) next.front)) is.moment.has c.in_ok-dues.ensures.dues)))
-    (never-amiss g.D.Shelf.told listed place info listing is)
+    (front-more is.book (book_in listed) (book_in counted) is.front (book-front (trail_in listed) (trail_in counted) next.front)) is.has c.in_ok-dues.ensures.dues)))
+    (never-amiss g.D.Shelf.told listed c.args.by place info listing is)
 
 pub returns-in_err-dues-clause-looks : goal.returns-in_err-dues-clause-looks
 returns-in_err-dues-clause-looks g c =

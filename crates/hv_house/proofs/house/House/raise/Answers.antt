@@ -1,67 +1,56 @@
-use Rattle.std.proofs.Common.{◌≤◌, ◌<◌, ◌+◌, ◌++◌, ◌∷◌, List, length, map, arith, refl, sym, subst, ap, ◌∙◌}
-use Rattle.hv_base.specs.Told.{Tells}
-use Rattle.hv_history.specs.declared.entry.Entry.{Entry}
-use Rattle.hv_history.specs.declared.entry.Entry.TheVariants.{Boot}
-use Rattle.hv_history.specs.Journal.{IsJournal}
-use Rattle.hv_house.specs.Booting.{lost_entry}
-use Rattle.hv_house.proofs.Boots.{load-full, load-small, raised-ready, settled-ready, over-book, stopped-early, stopped-full, unnoted, noted-with-room}
+use Rattle.std.proofs.Common.{length, inl, inr, refl, ap}
+use Rattle.hv_history.specs.State.{state_of}
+use Rattle.hv_house.specs.declared.boot.BootFault.TheVariants as fault
+use Rattle.hv_house.proofs.Boots.{unnoted, noted-with-room}
+use Rattle.hv_house.proofs.Raising.{unopened, lacks-memory, is-full, full-room, raise-fault, err-map, all-over}
 use Rattle.hv_house.proofs.house.House.raise.Goals as goal
 
-pub returns-then-entries-len-clause-full : goal.returns-then-entries-len-clause-full
-returns-then-entries-len-clause-full g c =
-    let book = c.args.book.entries in
-    let full : c.args.limits.entries < length book + length c.in-Ok.found.unended.items + 1 =
-    omega (arith, c.if-entries-len.true, c.len.ensures, ap length c.entries.ensures.entries) in
-    (refl, ap length c.entries.ensures.entries, load-full c.args.limits book c.requires.fit c.in-Ok.found.unended.items c.in-Ok.ensures.learned.open_are full)
-
-pub returns-then-entries-len-clause-stopped : goal.returns-then-entries-len-clause-stopped
-returns-then-entries-len-clause-stopped g c = stopped-full _ (g.D.Shelf.told c.args.shelf) c.args.book.entries c.requires.journal
-
 pub returns-then-place-gt-MOST_BYTES-clause-stopped : goal.returns-then-place-gt-MOST_BYTES-clause-stopped
-returns-then-place-gt-MOST_BYTES-clause-stopped g c = stopped-early (g.D.Shelf.told c.args.shelf) c.args.book.entries c.requires.journal
-
-pub returns-in-Ok-note_opening-clause-ready : goal.returns-in-Ok-note_opening-clause-ready
-returns-in-Ok-note_opening-clause-ready g c =
-    let room : length c.args.book.entries + length c.in-Ok.found.unended.items + 1 ≤ c.args.limits.entries =
-    omega (arith, c.if-entries-len.false, c.len.ensures, ap length c.entries.ensures.entries) in
-    settled-ready c.args.limits g.D.Shelf.told c.note_opening.new.self _ refl refl c.settle.ensures.entries refl c.settle.ensures.closed
-    (raised-ready c.args.limits g.D.Shelf.told c.args.book.entries c.in-Ok.found c.note_opening.new.self c.in-Ok-note_opening.ensures.marks.limits c.requires.most c.requires.fit c.in-Ok.ensures.learned room c.in-Ok-note_opening.ensures.kept
-    (c.in-Ok-note_opening.ensures.entries
-    ∙ ap (λ (es : List Entry). es ++ Boot c.in-Ok.found.runs ∷ map lost_entry c.deref.result.now) (c.over.ensures.entries ∙ c.learn.ensures.entries)
-    ∙ ap (λ xs. c.args.book.entries ++ Boot c.in-Ok.found.runs ∷ map lost_entry xs) c.deref.ensures.value)).1
-
-pub returns-in-Ok-note_opening-clause-opened : goal.returns-in-Ok-note_opening-clause-opened
-returns-in-Ok-note_opening-clause-opened g c =
-    let room : length c.args.book.entries + length c.in-Ok.found.unended.items + 1 ≤ c.args.limits.entries =
-    omega (arith, c.if-entries-len.false, c.len.ensures, ap length c.entries.ensures.entries) in (
-      c.settle.ensures.entries
-          ∙ (raised-ready c.args.limits g.D.Shelf.told c.args.book.entries c.in-Ok.found c.note_opening.new.self c.in-Ok-note_opening.ensures.marks.limits c.requires.most c.requires.fit c.in-Ok.ensures.learned room c.in-Ok-note_opening.ensures.kept
-          (c.in-Ok-note_opening.ensures.entries
-          ∙ ap (λ (es : List Entry). es ++ Boot c.in-Ok.found.runs ∷ map lost_entry c.deref.result.now) (c.over.ensures.entries ∙ c.learn.ensures.entries)
-          ∙ ap (λ xs. c.args.book.entries ++ Boot c.in-Ok.found.runs ∷ map lost_entry xs) c.deref.ensures.value)).0,
-      load-small c.args.limits c.args.book.entries c.requires.fit c.in-Ok.found.unended.items c.in-Ok.ensures.learned.open_are room,
-    )
-
-pub returns-in-Ok-note_opening-clause-over : goal.returns-in-Ok-note_opening-clause-over
-returns-in-Ok-note_opening-clause-over g c =
-    over-book c.args.start.value c.note_opening.new.self _ (ap (λ s. s.value) c.in-Ok-note_opening.ensures.marks.start)
-    (c.settle.ensures.marks ∙ c.in-Ok-note_opening.ensures.marks.marks ∙ c.over.ensures.marks)
-    (c.in-Ok-note_opening.ensures.marks.marks ∙ c.over.ensures.marks) c.settle.ensures.entries c.settle.ensures.opened
+returns-then-place-gt-MOST_BYTES-clause-stopped g c =
+    unopened g.D.Shelf.told g.D.Shelf.faults g.D.Shelf.hard c.args.book.entries c.args.shelf fault.NoMemory lacks-memory c.requires.journal
 
 pub returns-then-place-gt-MOST_BYTES-clause-roomy : goal.returns-then-place-gt-MOST_BYTES-clause-roomy
 returns-then-place-gt-MOST_BYTES-clause-roomy g c = unnoted c.args.limits (g.D.Shelf.told c.args.shelf) c.args.book.entries c.requires.journal
 
-pub returns-then-entries-len-clause-roomy : goal.returns-then-entries-len-clause-roomy
-returns-then-entries-len-clause-roomy g c = unnoted c.args.limits (g.D.Shelf.told c.args.shelf) c.args.book.entries c.requires.journal
+pub returns-then-place-gt-MOST_BYTES-clause-room : goal.returns-then-place-gt-MOST_BYTES-clause-room
+returns-then-place-gt-MOST_BYTES-clause-room g c = inr refl
 
-pub returns-in-Ok-clause-roomy : goal.returns-in-Ok-clause-roomy
-returns-in-Ok-clause-roomy g c =
-    let room : length c.args.book.entries + length c.in-Ok.found.unended.items + 1 ≤ c.args.limits.entries =
-    omega (arith, c.if-entries-len.false, c.len.ensures, ap length c.entries.ensures.entries) in
-    noted-with-room c.args.limits (g.D.Shelf.told c.close.result) c.args.book.entries
-    (load-small c.args.limits c.args.book.entries c.requires.fit c.in-Ok.found.unended.items c.in-Ok.ensures.learned.open_are room)
+pub open_read-requires-clause-room : goal.open_read-requires-clause-room
+open_read-requires-clause-room g c = c.has_room-room.ensures.room.0 c.if-room.true
 
-pub note_opening-requires-clause-journal : goal.note_opening-requires-clause-journal
-note_opening-requires-clause-journal g c =
-    subst (λ (es : List Entry). Tells (g.D.Shelf.told c.args.shelf) (λ s. IsJournal es s.journal))
-    (sym (c.over.ensures.entries ∙ c.learn.ensures.entries)) c.requires.journal
+pub returns-then-room-clause-over : goal.returns-then-room-clause-over
+returns-then-room-clause-over g c =
+    all-over g.D.Shelf.told g.D.Shelf.faults g.D.Shelf.hard c.args.limits c.args.start.value c.args.shelf c.args.book.entries c.open_read.result
+    c.open_read.ensures.raised
+
+pub returns-then-room-clause-full : goal.returns-then-room-clause-full
+returns-then-room-clause-full g c =
+    err-map c.open_read.result _ _
+    (λ x ends. raise-fault c.args.limits c.args.book.entries (g.D.Shelf.told c.args.shelf) (g.D.Shelf.told x.1) x.0 ends) c.open_read.ensures.ends
+
+pub returns-then-room-clause-room : goal.returns-then-room-clause-room
+returns-then-room-clause-room g c =
+    err-map c.open_read.result _ _ (λ x ends. inl (c.has_room-room.ensures.room.0 c.if-room.true)) c.open_read.ensures.ends
+
+pub returns-else-room-clause-room : goal.returns-else-room-clause-room
+returns-else-room-clause-room g c = inr refl
+
+pub returns-then-room-clause-roomy : goal.returns-then-room-clause-roomy
+returns-then-room-clause-roomy g c =
+    err-map c.open_read.result _ _
+    (λ x ends. noted-with-room c.args.limits (g.D.Shelf.told x.1) c.args.book.entries (c.has_room-room.ensures.room.0 c.if-room.true)) c.open_read.ensures.ends
+
+pub returns-else-room-clause-full : goal.returns-else-room-clause-full
+returns-else-room-clause-full g c = (
+  refl,
+  ap length c.entries.ensures.entries,
+  full-room c.args.limits (state_of c.args.book.entries) c.has_room-room.result c.if-room.false c.has_room-room.ensures.room.1,
+)
+
+pub returns-else-room-clause-stopped : goal.returns-else-room-clause-stopped
+returns-else-room-clause-stopped g c =
+    unopened g.D.Shelf.told g.D.Shelf.faults g.D.Shelf.hard c.args.book.entries c.args.shelf (fault.Full (length c.entries.result.now))
+    (is-full (length c.entries.result.now)) c.requires.journal
+
+pub returns-else-room-clause-roomy : goal.returns-else-room-clause-roomy
+returns-else-room-clause-roomy g c = unnoted c.args.limits (g.D.Shelf.told c.args.shelf) c.args.book.entries c.requires.journal

@@ -1,0 +1,5 @@
+pub mod NewIds
+pub mod OwnChanges
+pub mod QuietEntries
+pub mod OwnRecords
+pub mod Commits

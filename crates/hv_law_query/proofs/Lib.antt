@@ -1,0 +1,4 @@
+pub mod Folds
+pub mod Replaced
+pub mod Rows
+pub mod Weights

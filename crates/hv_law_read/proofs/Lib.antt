@@ -1,0 +1,5 @@
+pub mod NeedLemmas
+pub mod ReaderLemmas
+pub mod TakenLemmas
+pub mod RowLemmas
+pub mod OwnLemmas

@@ -1,0 +1,15 @@
+pub mod Lists
+pub mod Sides
+pub mod Truths
+pub mod Grown
+pub mod WideRows
+pub mod Reached
+pub mod Narrowed
+pub mod Spots
+pub mod UseNodes
+pub mod WideNodes
+pub mod PushNodes
+pub mod Pruning
+pub mod Moving
+pub mod Pushing
+pub mod Landing

@@ -1,0 +1,5 @@
+pub mod Conditions
+pub mod Reach
+pub mod Wide
+pub mod Pruned
+pub mod Pushed

@@ -1,0 +1,2 @@
+pub mod StageNodes
+pub mod Lines
