@@ -17,7 +17,7 @@ SELECT count(*) FROM people;
 --   _c0
 --   3
 -- A form that is read, and doesn't run yet.
-EXPLAIN FORMATTED SELECT * FROM people;
+SELECT row_number() OVER (ORDER BY age) FROM people;
 --   FAILED 4 Syntax
 -- No statement.
 SELECT (((( * FROM people;

@@ -10,7 +10,7 @@ SELECT 9223372036854775808;
 --   FAILED 3 WideNumber at 7
 SELECT a FROM;
 --   FAILED 4 Syntax
-EXPLAIN FORMATTED SELECT a FROM t;
+SELECT row_number() OVER (ORDER BY a) FROM t;
 --   FAILED 4 Syntax
 SELECT (((((((((((((((((((((((((((((((((((((((((((((((((((((((((((((((((1)))))))))))))))))))))))))))))))))))))))))))))))))))))))))))))))));
 --   FAILED 5 Nesting at 71

@@ -1,7 +1,7 @@
 #!/bin/bash
 # What a folder shows in which compactions stand, over real files: tests/compacted_folder.sh PROGRAM [EVERY]
 #
-# PROGRAM is the built program, as crates/hive/out/hive. No statement asks for a compaction yet: so the journals and the row
+# PROGRAM is the built program, as crates/hive/out/hive. Nothing does a compaction that was asked for yet: so the journals and the row
 # files are written here, byte by byte (docs/FORMATS.md), and what a run prints and notes over them was worked out by hand
 # (docs/COMPACTION.md). tools/hive-book reads what was noted. Where strace is there, the files that a query opens are counted;
 # and where EVERY is above 0, too, an opening that ends two compactions is killed at each EVERY-th of its calls of the system
@@ -263,9 +263,12 @@ so "rows are read and changed" is_status 0
 so "in the base, in the wide delta and beside them" is printed "p${tab}a" "a${tab}3" "b${tab}2" "b${tab}4" "c${tab}5" \
     'OK inserted 2 deleted 0' 'OK inserted 1 deleted 1' 'OK inserted 0 deleted 1' \
     "p${tab}a" "a${tab}6" "a${tab}30" "b${tab}2" "b${tab}7" "c${tab}5"
-asks 'SELECT p, a FROM t ORDER BY p, a' 'SHOW PARTITIONS t'
+asks 'SELECT p, a FROM t ORDER BY p, a' 'SHOW PARTITIONS t' 'SHOW COMPACTIONS'
 so "and opens again" is_status 0
-so "with what stood there" is printed "p${tab}a" "a${tab}6" "a${tab}30" "b${tab}2" "b${tab}7" "c${tab}5" partition p=a p=b p=c
+so "with what stood there" is printed "p${tab}a" "a${tab}6" "a${tab}30" "b${tab}2" "b${tab}7" "c${tab}5" partition p=a p=b p=c \
+    "id${tab}table${tab}partition${tab}type${tab}state${tab}held_by" "1${tab}t${tab}p=a${tab}major${tab}succeeded${tab}NULL" \
+    "2${tab}t${tab}p=b${tab}minor${tab}ready for cleaning${tab}NULL" "3${tab}t${tab}p=c${tab}minor${tab}succeeded${tab}NULL" \
+    "4${tab}t${tab}p=c${tab}major${tab}failed${tab}NULL" "5${tab}t${tab}p=b${tab}minor${tab}initiated${tab}NULL"
 so "no job ended meanwhile" is ends "${kinds_ended[@]}"
 so "ids go on behind the forgotten one" is directories p=a/base_0000003 p=a/delete_delta_0000007_0000007_0000 \
     p=a/delta_0000006_0000006_0000 p=a/delta_0000007_0000007_0000 p=b/delete_delta_0000008_0000008_0000 \

@@ -17,7 +17,7 @@ INSERT INTO t VALUES (1, 'FAILED 4 Syntax'), (2, 'FAILED 13 BadType');
 
 SELECT * FROM t; SELECT nothing FROM t;
 -- a comment
-  EXPLAIN FORMATTED SELECT 1;
+  ALTER TABLE t ADD COLUMNS (b INT);
 INSERT INTO t
   VALUES (1);
 SELECT s AS `FAILED 4 Syntax` FROM t WHERE a > 2;
@@ -29,7 +29,7 @@ S
 cat >wanted <<'S'
 hive: a new store was made in the folder wh
 line 4, statement 4: 11 NoColumn: correct the name (docs/REFUSALS.md)
-line 6, statement 5: 4 Syntax: this form doesn't run yet: docs/LANGUAGE.md has those that do (docs/REFUSALS.md)
+line 6, statement 5: 4 Syntax: docs/LANGUAGE.md has the forms, docs/FROM_HIVE.md what to write for others (docs/REFUSALS.md)
 line 7, statement 6: 14 BadCount: give each column one value (docs/REFUSALS.md)
 line 11, statement 9: 4 Syntax: no statement stands before that ';' (docs/REFUSALS.md)
 line 12, statement 10: 1 BadCharacter at 9: correct the text at that byte of the statement (docs/REFUSALS.md)

@@ -1,5 +1,5 @@
 -- Rows of steps, put together.
-use Rattle.std.proofs.Common.{◌≡◌, true, false, ℕ, zero, suc, ◌+◌, ◌-◌, ◌≤◌, ◌<◌, min, Some, List, [], ◌∷◌, ◌++◌, length, map, refl, sym, ap, ◌∙◌, subst, append_assoc, le_trans, arith}
+use Rattle.std.proofs.Common.{◌≡◌, true, false, ℕ, zero, suc, ◌+◌, ◌-◌, ◌≤◌, ◌<◌, min, Some, List, [], ◌∷◌, ◌++◌, length, map, refl, sym, ap, ◌∙◌, subst, append_assoc, le_trans, arith, true≢false}
 use Rattle.std.specs.Prelude.{Bool, slice_get}
 use Rattle.std.specs.Option.{option_to_list}
 use Rattle.std.proofs.lemmas.List.{append-nil}
@@ -175,12 +175,17 @@ later-further faults a b c first next = record {
   };
   count = le_trans first.count next.count;
   closed = λ e. next.closed (first.closed e);
-  rises = λ was is. by was is b.closed refl;
+  starved = λ e. next.starved (first.starved e);
+  rises = λ was is fed. by was is fed b.closed refl;
 }
   where
-    by : a.closed ≡ false → c.closed ≡ true → (shut : Bool) → b.closed ≡ shut → Rose (faults a.shelf) (faults c.shelf)
-    by was is true e = rose-upto (faults a.shelf) (faults b.shelf) (faults c.shelf) (first.rises was e) next.count
-    by was is false e = rose-from (faults a.shelf) (faults b.shelf) (faults c.shelf) first.count (next.rises e is)
+    fed-there : (starves : Bool) → b.starved ≡ starves → c.starved ≡ false → b.starved ≡ false
+    fed-there true e fed = absurd (true≢false (sym (next.starved e) ∙ fed))
+    fed-there false e fed = e
+
+    by : a.closed ≡ false → c.closed ≡ true → c.starved ≡ false → (shut : Bool) → b.closed ≡ shut → Rose (faults a.shelf) (faults c.shelf)
+    by was is fed true e = rose-upto (faults a.shelf) (faults b.shelf) (faults c.shelf) (first.rises was e (fed-there b.starved refl fed)) next.count
+    by was is fed false e = rose-from (faults a.shelf) (faults b.shelf) (faults c.shelf) first.count (next.rises e is fed)
 
 -- ---- own places rise, and have the items
 

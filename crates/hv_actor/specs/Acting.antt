@@ -8,14 +8,16 @@ use Rattle.hv_trail.specs.Lasting.{GoesOn}
 use Rattle.hv_trail.specs.Steps.{HouseSeen, Call, Outcome, KeepsRest, Step}
 
 -- A house goes on: items stand behind those that stood, what no call changes is as it was, the store's count of faults doesn't fall, one that
--- was closed stays so, and one that was open is closed only where that count rose.
+-- was closed stays so, and one that was open is closed only where that count rose, or memory lacked in a publication.
 pub record IsLater {D : Type 0} (faults : D → ℕ) (before now : HouseSeen D) : Type 0 where
   pub added : List TrailItem
   pub trail : now.trail ≡ before.trail ++ added
   pub rest : KeepsRest before now
   pub count : faults before.shelf ≤ faults now.shelf
   pub closed : before.closed ≡ true → now.closed ≡ true
-  pub rises : before.closed ≡ false → now.closed ≡ true → Rose (faults before.shelf) (faults now.shelf)
+  pub starved : before.starved ≡ true → now.starved ≡ true
+  pub rises : before.closed ≡ false → now.closed ≡ true → now.starved ≡ false
+      → Rose (faults before.shelf) (faults now.shelf)
 
 -- these items, at places from this one on
 abbrev pub placed_from : ℕ → List TrailItem → List (ℕ × TrailItem)

@@ -45,6 +45,9 @@ pub trait Act<D: Shelf, H: Housed<D>>: Drop {
     /// What is true of its answer, over the house as it was and as it is then.
     ghost does: { Self → HouseSeen D → HouseSeen D → Self.Answer → Type 0 };
 
+    /// How many items it adds at most.
+    ghost most: { ℕ };
+
     fn act(self, alloc: Global, house: &mut H) -> Self::Answer
         requires keeps { H.keeps house.old }
         requires shuts { H.shuts house.old }
@@ -55,6 +58,14 @@ pub trait Act<D: Shelf, H: Housed<D>>: Drop {
             (H.seen house.old) (H.seen house.new) }
         ensures adds { gains (call self (H.seen house.old) result) (outcome self result) ≡ adds self result }
         ensures does { does self (H.seen house.old) (H.seen house.new) result };
+
+    /// It adds no more, whatever it answers.
+    ghost few: { (act : Self) (answer : Self.Answer) → length (adds act answer) ≤ most };
+
+    /// A house on which it was done goes on.
+    ghost goes_on: { (act : Self) (answer : Self.Answer) (before now : HouseSeen D)
+        → Step D.told D.faults (call act before answer) (outcome act answer) before now
+        → does act before now answer → IsLater D.faults before now };
 }
 
 /// One who acts on a house, step by step, and may not be the only one.
@@ -74,9 +85,13 @@ pub trait Actor<D: Shelf, H: Housed<D>> {
     /// What holds of it between two steps.
     ghost keeps: { Self → Type 0 };
 
+    /// How many items one of its steps may add.
+    ghost most: { ℕ };
+
     /// Lets one step happen. What the house is then was seen, and what the step added is its own.
     fn hold<A: Act<D, H>>(&mut self, alloc: Global, act: A) -> A::Answer
         requires keeps { keeps self.old }
+        requires few { A.most ≤ most }
         requires can { (now : H) → H.keeps now → meanwhile (house self.old) now → A.can act (H.seen now) }
         ensures keeps { keeps self.new }
         ensures held { Held (sees D.told D.faults H.seen H.keeps) meanwhile (house self.old) (house self.new)
@@ -95,12 +110,15 @@ pub trait Actor<D: Shelf, H: Housed<D>> {
 
     /// What two rows of others' items may be, they may be together.
     ghost rows: { AreRows between };
+
+    /// Any of its steps may add an item.
+    ghost one: { 1 ≤ most };
 }
 
 /// A house on which nobody else acts.
 impl<D: Shelf, H: Housed<D>> Actor<D, H> for H {
     ghost use Rattle.hv_actor.specs.Acting.{Nothing, Untouched, own_alone};
-    ghost use Rattle.hv_actor.specs.Rows.{nothing_rows, untouched_goes_on};
+    ghost use Rattle.hv_actor.specs.Rows.{nothing_rows, untouched_goes_on, one_of_two};
 
     ghost house = { λ h. h };
 
@@ -112,6 +130,8 @@ impl<D: Shelf, H: Housed<D>> Actor<D, H> for H {
 
     ghost keeps = { λ h. H.keeps h × H.shuts h };
 
+    ghost most = { 2 };
+
     ghost goes_on = { untouched_goes_on D.faults H.seen };
 
     ghost kept = { λ h keeps. keeps.0 };
@@ -119,6 +139,8 @@ impl<D: Shelf, H: Housed<D>> Actor<D, H> for H {
     ghost shut = { λ h keeps. keeps.1 };
 
     ghost rows = { nothing_rows };
+
+    ghost one = { one_of_two };
 
     fn hold<A: Act<D, H>>(&mut self, alloc: Global, act: A) -> A::Answer {
         let _opened = self.opened();

@@ -174,7 +174,7 @@ impl<D: Shelf, H: Housed<D>, O: Others<D, H>> Crowd<D, H, O> {
 
 impl<D: Shelf, H: Housed<D>, O: Others<D, H>> Actor<D, H> for Crowd<D, H, O> {
     ghost use Rattle.hv_actor.specs.Acting.{Anything, Touched, own_among};
-    ghost use Rattle.hv_actor.specs.Rows.{anything_rows};
+    ghost use Rattle.hv_actor.specs.Rows.{anything_rows, one_of_two};
 
     ghost house = { λ c. c.house };
 
@@ -186,6 +186,8 @@ impl<D: Shelf, H: Housed<D>, O: Others<D, H>> Actor<D, H> for Crowd<D, H, O> {
 
     ghost keeps = { λ c. H.keeps c.house × H.shuts c.house };
 
+    ghost most = { 2 };
+
     ghost goes_on = { λ before now later. later };
 
     ghost kept = { λ c keeps. keeps.0 };
@@ -193,6 +195,8 @@ impl<D: Shelf, H: Housed<D>, O: Others<D, H>> Actor<D, H> for Crowd<D, H, O> {
     ghost shut = { λ c keeps. keeps.1 };
 
     ghost rows = { anything_rows };
+
+    ghost one = { one_of_two };
 
     fn hold<A: Act<D, H>>(&mut self, alloc: Global, act: A) -> A::Answer {
         self.settle();

@@ -168,6 +168,7 @@ module _ {D : Type 0} (told : D → Option Store) (faults : D → ℕ) (txn : Tx
     trail = s.trail;
     store = moves-by (told before.shelf) (told now.shelf) _ _ (λ a b moved. inl moved) s.store;
     closed = s.closed;
+    starved = s.starved;
     shut_out = s.shut_out;
     counts = s.counts;
     rest = s.rest;
@@ -177,6 +178,7 @@ module _ {D : Type 0} (told : D → Option Store) (faults : D → ℕ) (txn : Tx
     trail = s.trail;
     store = s.store;
     closed = s.closed;
+    starved = s.starved;
     shut_out = s.shut_out;
     counts = s.counts;
     rest = s.rest;
@@ -191,6 +193,7 @@ module _ {D : Type 0} (told : D → Option Store) (faults : D → ℕ) (txn : Tx
     trail = s.trail;
     store = moves-by (told before.shelf) (told now.shelf) _ _ (λ a b moved. inr (by, table, partition, moved)) s.store;
     closed = s.closed;
+    starved = s.starved;
     shut_out = s.shut_out;
     counts = s.counts;
     rest = s.rest;
@@ -200,6 +203,7 @@ module _ {D : Type 0} (told : D → Option Store) (faults : D → ℕ) (txn : Tx
     trail = s.trail;
     store = s.store;
     closed = s.closed;
+    starved = s.starved;
     shut_out = s.shut_out;
     counts = s.counts;
     rest = s.rest;
@@ -259,6 +263,7 @@ module _ {D : Type 0} (told : D → Option Store) (faults : D → ℕ) (txn : Tx
       trail = sym (append-nil (trail_of house.trail));
       store = moves-same (told house.shelf) _ (λ s. record { tree_is = refl; reads = λ is. is });
       closed = or-false house.trail.closed;
+      starved = refl;
       shut_out = λ shut. let never : true ≡ false = sym shut ∙ whole.ready.kept.running in cc;
       counts = omega arith;
       rest = record { start = refl; opened = refl; limits = refl };

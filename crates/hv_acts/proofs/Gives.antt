@@ -1,5 +1,5 @@
 -- A write id that is given by an act.
-use Rattle.std.proofs.Common.{◌≡◌, inr, ℕ, ◌+◌, ◌≤◌, Bool, true, false, IsTrue, is_none, Option, Some, None, Ok, Err, List, [], ◌∷◌, length, ltb-true, refl, sym, ap, ◌∙◌, subst, arith}
+use Rattle.std.proofs.Common.{◌≡◌, inr, ℕ, ◌+◌, ◌≤◌, Bool, true, false, IsTrue, is_none, Option, Some, None, Ok, Err, List, [], ◌∷◌, length, take, ltb-true, refl, sym, ap, ◌∙◌, subst, arith}
 use Rattle.std.specs.Prelude.{IsSomeAnd, IsNone, if◌then◌else◌}
 use Rattle.hv_base.specs.declared.ids.TxnId.{TxnId}
 use Rattle.hv_base.specs.declared.ids.TableId.{TableId}
@@ -14,9 +14,10 @@ use Rattle.hv_history.specs.declared.state.Ending.{Ending}
 use Rattle.hv_history.specs.declared.state.Table.{Table}
 use Rattle.hv_history.specs.declared.state.Transaction.{Transaction}
 use Rattle.hv_history.specs.State.{State, numbered, given_in}
-use Rattle.hv_history.specs.Legal.{Of, IsRunning, GivenFits as IdFits, FullFits, NeedsId, CauseIsTrue, profile}
+use Rattle.hv_history.specs.Legal.{Of, IsRunning, GivenFits as IdFits, FullFits, NeedsRoom, CauseIsTrue, profile}
 use Rattle.hv_trail.specs.declared.trail.TrailItem.{TrailItem}
-use Rattle.hv_trail.specs.Trail.{state_at}
+use Rattle.hv_stands.specs.Running.{meant, running, snapshot_at}
+use Rattle.hv_trail.specs.Trail.{book_of, state_at}
 use Rattle.hv_trail.specs.Kept.{trail_of}
 use Rattle.hv_trail.specs.Steps.{Note, Done, Step, gains}
 use Rattle.hv_telling.specs.hv_house.specs.declared.house.House.{House}
@@ -71,7 +72,7 @@ rests-give trail txn table room rests = by (numbered (state_at trail).transactio
     }
 
 -- the book has room where one that runs has
-has-room : (state : State) (o : Option Transaction) → IsSomeAnd o IsRunning → (IsSomeAnd o (FullFits profile state) → ⊥) → is_full state ≡ false
+pub has-room : (state : State) (o : Option Transaction) → IsSomeAnd o IsRunning → (IsSomeAnd o (FullFits profile state) → ⊥) → is_full state ≡ false
 has-room state None runs room = absurd runs
 has-room state (Some t) runs room = by (is_full state) refl
   where
@@ -97,8 +98,9 @@ give-free trail txn table runs room =
 pub lack-true : (trail : List TrailItem) (txn : TxnId) (table : TableId) → RunsWith trail txn 0 → IsIdDue trail txn table → IsCauseTrue trail txn cause.Full
 lack-true trail txn table runs due =
     let just = just-given trail txn runs.0 [] (Change due.info due.effect) due.change runs.1 in
+    let now : Transaction = running just.asking (meant (take just.place (book_of trail)) just.said) (snapshot_at (book_of trail) just.place) [] in
     subst (λ (o : Option Transaction). IsSomeAnd o (CauseIsTrue (state_at trail) cause.Full)) (sym just.under_way.here)
-    (inr (subst (NeedsId []) (sym just.means_it) due.some))
+    (inr (subst (NeedsRoom (state_at trail) now) (sym just.means_it) due.some))
 
 -- ---- its step
 

@@ -8,7 +8,7 @@ use Rattle.hv_base.specs.declared.ids.Touch.{Touch}
 use Rattle.hv_shelf.specs.declared.place.Place.{Place}
 use Rattle.hv_logic.specs.declared.catalog.TableInfo.{TableInfo}
 use Rattle.hv_logic.specs.declared.meaning.Meaning.{Meaning}
-use Rattle.hv_logic.specs.declared.meaning.Meaning.TheVariants.{Change, Make, Unmake, Refused, Twice, RowLimit, PartitionLimit}
+use Rattle.hv_logic.specs.declared.meaning.Meaning.TheVariants.{Change, Make, Unmake, Ask, Refused, Twice, RowLimit, PartitionLimit}
 use Rattle.hv_route.specs.declared.files.OutFile.{OutFile}
 use Rattle.hv_history.specs.declared.entry.Cause.{Cause}
 use Rattle.hv_history.specs.declared.entry.Cause.TheVariants as cause
@@ -25,6 +25,8 @@ use Rattle.hv_trail.proofs.LastingLaws.{goes-on-front, lasts, given-keeps}
 use Rattle.hv_acts.specs.Answers.{HasItsMark}
 use Rattle.hv_acts.specs.Putting.{HasIdFor}
 use Rattle.hv_acts.specs.Committing.{IsOfItsChange, CanBePut}
+use Rattle.hv_acts.specs.declared.compacting.AskFor.{AskFor}
+use Rattle.hv_acts.specs.Compacting.{IsJobDue}
 use Rattle.hv_acts.proofs.Passed.{asked-lasts}
 use Rattle.hv_acts.specs.Meant.{HasMeant, IsFileMeant, IsIdDue, IsCommitDue, IsMakeMeant, IsDropMeant, IsAbortDue}
 
@@ -113,6 +115,13 @@ module _ (before now : List TrailItem) (front : IsFront before now) where
     change = meant-lasts txn [] (Change is.info is.effect) is.change;
     of_table = is.of_table;
     some = is.some;
+  }
+
+  pub job-lasts : (asked : AskFor) → IsJobDue before asked → IsJobDue now asked
+  unfolding meant-lasts
+  job-lasts asked is = record {
+    ask = meant-lasts asked.by [] (Ask asked.table asked.partition asked.kind) is.ask;
+    started = is.started;
   }
 
   pub commit-lasts : (txn : TxnId) (wrote : List Touch) (places : List Place) → IsCommitDue before txn wrote places → IsCommitDue now txn wrote places

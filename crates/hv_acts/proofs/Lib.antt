@@ -22,5 +22,6 @@ pub mod ReadSteps
 pub mod Countings
 pub mod Showings
 pub mod Requests
+pub mod Compactions
 pub mod Endings
 pub mod Mine

@@ -20,8 +20,8 @@ use Rattle.hv_choosing.specs.Taken.{files_taken}
 use Rattle.hv_choosing.proofs.Listed.{listed-place}
 use Rattle.hv_table_rows.proofs.TakenFiles.{there-place}
 use Rattle.hv_law_visible.specs.Members.{IsIn}
-use Rattle.hv_law_made.specs.Standing.{Standing, HasFile, is_live_table, is_live_at}
-use Rattle.hv_law_made.proofs.BookLemmas.{books-are-sound}
+use Rattle.hv_telling.specs.hv_house.specs.hv_finals.specs.hv_law_made.specs.Standing.{Standing, HasFile, is_live_table, is_live_at}
+use Rattle.hv_telling.specs.hv_house.specs.hv_finals.specs.hv_law_made.proofs.BookLemmas.{books-are-sound}
 use Rattle.hv_telling.specs.hv_house.specs.hv_law_read.specs.Needs.{IsNeededBy}
 use Rattle.hv_telling.specs.hv_house.specs.hv_law_read.specs.Reading.{ReadsAt, IsTakenFor}
 use Rattle.hv_telling.specs.hv_house.specs.hv_law_read.proofs.NeedLemmas.{needed-stands, needs-last}

@@ -21,6 +21,9 @@ use Rattle.hv_acts.specs.declared.fault.ActFault.{ActFault}
 use Rattle.hv_acts.specs.declared.fault.ActFault.TheVariants as act
 use Rattle.hv_acts.specs.declared.giving.Given.{Given}
 use Rattle.hv_acts.specs.declared.giving.Given.TheVariants as given
+use Rattle.hv_acts.specs.declared.compacting.AskFor.{AskFor}
+use Rattle.hv_acts.specs.declared.compacting.AskedFor.{AskedFor}
+use Rattle.hv_acts.specs.declared.compacting.AskedFor.TheVariants as found
 use Rattle.hv_acts.specs.declared.committing.Committed.{Committed}
 use Rattle.hv_acts.specs.declared.committing.Committed.TheVariants as committed
 use Rattle.hv_acts.specs.declared.starting.Started.{Started}
@@ -31,6 +34,7 @@ use Rattle.hv_acts.specs.Committing.{adds_commit, CommitAnswers}
 use Rattle.hv_acts.specs.Starting.{adds_started, IsInItsWay, StartOrAbortAnswers}
 use Rattle.hv_acts.specs.Putting.{adds_file}
 use Rattle.hv_acts.specs.Requesting.{adds_request}
+use Rattle.hv_acts.specs.Compacting.{adds_job, AskAnswers}
 
 -- ---- lists of items
 
@@ -47,7 +51,7 @@ same-number a b e = let both : Some a ≡ Some b = e in cc
 pub noted-mine : (txn : ℕ) (event : Entry) → adder_of event ≡ Some txn → IsOf txn (Noted event)
 noted-mine txn (entry.Opened other session number text) e = same-number other.0 txn e
 noted-mine txn (entry.Abort other (cause.Request by)) e = same-number by.0 txn e
-noted-mine txn (entry.Asked job table partition kind by) e = let never : None ≡ Some txn = e in cc
+noted-mine txn (entry.Asked job table partition kind by) e = same-number by txn e
 noted-mine txn event e = e
 
 -- one entry, or none
@@ -86,6 +90,15 @@ pub request-mine : (by txn : TxnId) (result : Result Bool ActFault) → AllByRec
 request-mine by txn (Ok true) = (refl, tt)
 request-mine by txn (Ok false) = tt
 request-mine by txn (Err why) = tt
+
+-- so is the job that it asks for
+pub job-mine : (trail : List TrailItem) (asked : AskFor) (result : Result AskedFor ActFault) → AskAnswers trail asked result
+    → AllByRecursion (IsOf asked.by.0) (adds_job asked result)
+job-mine trail asked (Ok (found.Job job)) is = (refl, tt)
+job-mine trail asked (Ok found.Busy) is = tt
+job-mine trail asked (Ok (found.Aborted aborted)) is =
+    (subst (λ (why : Cause). IsOf asked.by.0 (Noted (entry.Abort asked.by why))) (sym is.full.cause_is) refl, tt)
+job-mine trail asked (Err why) is = tt
 
 -- ---- marks
 

@@ -19,7 +19,7 @@ use Rattle.hv_meta.specs.declared.facts.TxnState.TheVariants as standing
 use Rattle.hv_meta.specs.States.{state_in}
 use Rattle.hv_stands.specs.Reading.{table_of_name}
 use Rattle.hv_stands.specs.Statements.{AllFitting}
-use Rattle.hv_law_made.specs.Standing.{Standing, IsEncodingOf, is_live_at}
+use Rattle.hv_telling.specs.hv_house.specs.hv_finals.specs.hv_law_made.specs.Standing.{Standing, IsEncodingOf, is_live_at}
 use Rattle.hv_telling.specs.hv_house.specs.hv_law_read.specs.Needs.{IsNeededBy}
 use Rattle.hv_trail.specs.declared.trail.Reader.TheVariants.{Txn}
 use Rattle.hv_trail.specs.Kept.{trail_of}
@@ -115,6 +115,7 @@ module _ {D : Type 0} (told : D → Option Store) (faults : D → ℕ) where
     trail = sym (append-nil seen.trail);
     store = moves-same (told seen.shelf) _ (λ s. refl);
     closed = or-false seen.closed;
+    starved = refl;
     shut_out = λ shut. tt;
     counts = omega arith;
     rest = record { start = refl; opened = refl; limits = refl };

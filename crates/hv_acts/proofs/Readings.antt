@@ -30,7 +30,7 @@ use Rattle.hv_stands.proofs.Fitting.{fitting-sound, fronts-fit}
 use Rattle.hv_stands.proofs.Numbers.{found}
 use Rattle.hv_stands.proofs.Tables.{named-numbered}
 use Rattle.hv_law_locks.proofs.Holding.{given-live}
-use Rattle.hv_law_made.specs.Standing.{Standing}
+use Rattle.hv_telling.specs.hv_house.specs.hv_finals.specs.hv_law_made.specs.Standing.{Standing}
 use Rattle.hv_telling.specs.hv_house.specs.hv_law_read.specs.Reading.{ReadsAt}
 use Rattle.hv_trail.specs.declared.trail.TrailItem.{TrailItem}
 use Rattle.hv_trail.specs.Trail.{book_of, state_at}

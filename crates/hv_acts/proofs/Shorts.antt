@@ -3,14 +3,17 @@ use Rattle.std.proofs.Common.{◌≡◌, ℕ, zero, suc, ◌+◌, ◌≤◌, Som
 use Rattle.std.specs.List.{slice_get, flat_map}
 use Rattle.std.proofs.lemmas.List.{length-append}
 use Rattle.std.proofs.lemmas.List.Concat.{flat_map-cons}
+use Rattle.hv_base.specs.declared.ids.JobId.{JobId}
 use Rattle.hv_base.specs.declared.ids.TxnId.{TxnId}
 use Rattle.hv_base.specs.declared.ids.TableId.{TableId}
 use Rattle.hv_base.specs.declared.ids.WriteId.{WriteId}
 use Rattle.hv_base.specs.declared.ids.Touch.{Touch}
 use Rattle.hv_history.specs.declared.entry.Entry.TheVariants as entry
 use Rattle.hv_history.specs.declared.entry.Cause.TheVariants as cause
+use Rattle.hv_history.specs.declared.entry.JobKind.{JobKind}
+use Rattle.hv_history.specs.declared.entry.JobKind.TheVariants.{Minor, Major}
 use Rattle.hv_history.specs.Spelling.{touch_spelling, entry_spelling}
-use Rattle.hv_bytes.proofs.Lengths.{length-eight, length-text}
+use Rattle.hv_bytes.proofs.Lengths.{length-four, length-eight, length-text}
 use Rattle.hv_journal.proofs.Lengths.{length-touches}
 use Rattle.hv_telling.specs.hv_house.specs.House.{IsSmall}
 
@@ -28,6 +31,11 @@ short_full txn = grind (arith, length-append, length-eight)
 
 pub short_request : (txn by : TxnId) → IsSmall (entry.Abort txn (cause.Request by))
 short_request txn by = grind (arith, length-append, length-eight)
+
+pub short_asked : (job : JobId) (table : TableId) (partition : List ℕ) (kind : JobKind) (by : ℕ) → length partition ≤ 240
+    → IsSmall (entry.Asked job table partition kind by)
+short_asked job table partition Minor by short = grind (arith, length-append, length-four, length-eight, length-text)
+short_asked job table partition Major by short = grind (arith, length-append, length-four, length-eight, length-text)
 
 pub short_blocked : (txn holder : TxnId) → IsSmall (entry.Abort txn (cause.Blocked holder))
 short_blocked txn holder = grind (arith, length-append, length-eight)

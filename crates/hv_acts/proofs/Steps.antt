@@ -38,6 +38,7 @@ module _ {D : Type 0} (told : D → Option Store) (faults : D → ℕ) (seen : H
     trail = sym (append-nil seen.trail);
     store = moves-same (told seen.shelf) _ (λ s. refl);
     closed = or-false seen.closed;
+    starved = refl;
     shut_out = λ shut. tt;
     counts = omega arith;
     rest = record { start = refl; opened = refl; limits = refl };
@@ -50,6 +51,7 @@ module _ {D : Type 0} (told : D → Option Store) (faults : D → ℕ) (seen : H
     trail = sym (append-nil seen.trail);
     store = moves-same (told seen.shelf) _ (λ s. record { tree_is = refl; reads = λ is. is });
     closed = or-false seen.closed;
+    starved = refl;
     shut_out = λ shut. absurd (true≢false (sym shut ∙ running));
     counts = omega arith;
     rest = record { start = refl; opened = refl; limits = refl };
@@ -62,6 +64,7 @@ module _ {D : Type 0} (told : D → Option Store) (faults : D → ℕ) (seen : H
     trail = sym (append-nil seen.trail) ∙ ap (λ items. seen.trail ++ items) (sym none);
     store = moves-same (told seen.shelf) _ same;
     closed = closed ∙ sym (ap (λ b. b || true) closed);
+    starved = refl;
     shut_out = λ shut. out;
     counts = omega arith;
     rest = record { start = refl; opened = refl; limits = refl };

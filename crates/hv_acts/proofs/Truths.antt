@@ -9,7 +9,7 @@ use Rattle.hv_base.specs.declared.ids.Touch.{Touch}
 use Rattle.hv_shelf.specs.declared.place.Place.{Place}
 use Rattle.hv_ast.specs.declared.statement.Stmt.{Stmt}
 use Rattle.hv_logic.specs.declared.meaning.Meaning.{Meaning}
-use Rattle.hv_logic.specs.declared.meaning.Meaning.TheVariants.{Refused, Listing, Change, Make, Unmake, Plain, Twice, RowLimit, PartitionLimit}
+use Rattle.hv_logic.specs.declared.meaning.Meaning.TheVariants.{Refused, Listing, Change, Make, Unmake, Ask, Plain, Twice, RowLimit, PartitionLimit}
 use Rattle.hv_route.specs.declared.files.OutFile.{OutFile}
 use Rattle.hv_route.specs.Routes.{files_of}
 use Rattle.hv_route.specs.Touching.{touches_of}
@@ -23,8 +23,8 @@ use Rattle.hv_history.specs.declared.state.Transaction.{Transaction}
 use Rattle.hv_history.specs.State.{numbered, meaning, State}
 use Rattle.hv_built.specs.Running as built
 use Rattle.hv_history.specs.Asking.{numbers_in, is_asked, first_asked}
-use Rattle.hv_history.specs.Legal.{IsRunning, CommitFits, is_touched, IsTruthful, TouchesAreMeant, HasAsked, CommitIsTrue, IsMake, IsRefusedAs, ConflictIsTrue, IsFirstConflict, place_of_snapshot, Of}
-use Rattle.hv_history.specs.Shown.{is_plain}
+use Rattle.hv_history.specs.Legal.{IsRunning, CommitFits, is_touched, IsTruthful, TouchesAreMeant, HasAsked, CommitIsTrue, CauseIsTrue, IsMake, NeedsRoom, IsRefusedAs, ConflictIsTrue, IsFirstConflict, place_of_snapshot, Of}
+use Rattle.hv_history.specs.JobsTrue.{ask_of, asks_by, was_busy, AsksNow, IsAskedFor}
 use Rattle.hv_stands.specs.Files.{place_of_file}
 use Rattle.hv_history.proofs.AskingLaws.{none-left}
 use Rattle.hv_stands.specs.Running.{Asking, meant, snapshot_at, running, IsUnderWay}
@@ -37,18 +37,21 @@ use Rattle.hv_telling.specs.hv_house.specs.House.{entries_of}
 use Rattle.hv_telling.specs.Telling.{IsTrueNow, IsMeantFile}
 use Rattle.hv_acts.specs.Answers.{EntryFits}
 use Rattle.hv_acts.specs.Putting.{Runs}
+use Rattle.hv_acts.specs.declared.compacting.AskFor.{AskFor}
+use Rattle.hv_acts.specs.Compacting.{ask_in, is_busy_then, IsJobDue}
 use Rattle.hv_acts.specs.Committing.{IsConflict, WerePut}
-use Rattle.hv_acts.specs.Passing.{opened_then, AllPassed, HasAskedAll}
+use Rattle.hv_acts.specs.Passing.{opened_then, AllPassed, HasAskedAll, is_asking}
 use Rattle.hv_acts.specs.Meant.{MeansNow, HasMeant, HasAtMost, places_of_files, IsFileMeant, IsCommitDue, IsMakeMeant, IsDropMeant, IsAbortDue, IsCauseTrue, TouchesNothing}
 use Rattle.hv_acts.proofs.Steps.{book-is}
 use Rattle.hv_acts.proofs.Meant.{IsOnWay, on-way}
-use Rattle.hv_acts.proofs.Passed.{passed-now}
+use Rattle.hv_acts.proofs.Passed.{passed-now, stood-now}
 
 -- ---- it has asked for all aborts that its text lists
 
 abbrev AsksNone : List TrailItem → TxnId → ℕ → Stmt → Meaning → Type 0
 AsksNone trail txn place said Plain =
     first_asked (state_at trail).transactions txn.0 (opened_then trail place) (numbers_in (Some said)) ≡ None
+AsksNone trail txn place said (Ask table partition kind) = was_busy (state_at trail) place (ask_of table partition kind) ≡ true
 AsksNone trail txn place said means = Unit {0}
 
 all-passed-now : (trail : List TrailItem) (txn : TxnId) (place : ℕ) (numbers : List ℕ) → AllPassed trail txn place numbers
@@ -60,6 +63,7 @@ asked-now : (trail : List TrailItem) (txn : TxnId) (place : ℕ) (said : Stmt) (
     → AsksNone trail txn place said means
 asked-now trail txn place said Plain asked =
     none-left (state_at trail).transactions txn.0 (opened_then trail place) (numbers_in (Some said)) (all-passed-now trail txn place (numbers_in (Some said)) asked)
+asked-now trail txn place said (Ask table partition kind) asked = stood-now trail place (ask_of table partition kind) asked
 asked-now trail txn place said (Refused why) asked = tt
 asked-now trail txn place said (Listing names rows) asked = tt
 asked-now trail txn place said (Change info effect) asked = tt
@@ -74,6 +78,7 @@ asks-none : (trail : List TrailItem) (txn : TxnId) (asking : Asking) (place : �
     → HasAsked (state_at trail) txn.0 (running asking m (snapshot_at (book_of trail) place) given) (Some means)
 asks-none trail txn asking place said runs Plain given m asks =
     ap (λ (tree : Option Stmt). first_asked (state_at trail).transactions txn.0 (opened_then trail place) (numbers_in tree)) runs.read ∙ asks
+asks-none trail txn asking place said runs (Ask table partition kind) given m asks = asks
 asks-none trail txn asking place said runs (Refused why) given m asks = tt
 asks-none trail txn asking place said runs (Listing names rows) given m asks = tt
 asks-none trail txn asking place said runs (Change info effect) given m asks = tt
@@ -84,8 +89,9 @@ asks-none trail txn asking place said runs RowLimit given m asks = tt
 asks-none trail txn asking place said runs PartitionLimit given m asks = tt
 
 -- one that comes to something else has nothing to ask for
-no-ask : (s : State) (own : ℕ) (t : Transaction) (m : Meaning) → is_plain m ≡ false → HasAsked s own t (Some m)
+no-ask : (s : State) (own : ℕ) (t : Transaction) (m : Meaning) → is_asking m ≡ false → HasAsked s own t (Some m)
 no-ask s own t Plain e = cc
+no-ask s own t (Ask table partition kind) e = cc
 no-ask s own t (Refused why) e = tt
 no-ask s own t (Listing names rows) e = tt
 no-ask s own t (Change info effect) e = tt
@@ -211,7 +217,7 @@ module _ (trail : List TrailItem) (txn : TxnId) (runs : Runs trail txn) where
       subst (λ (o : Option Transaction). IsSomeAnd o (λ (u : Transaction). HasAsked (state_at trail) txn.0 u (meaning u))) (sym on.under_way.here)
       (subst (HasAsked (state_at trail) txn.0 now) (sym on.means_it) asks)
 
-  pub asked-other : (given : List (ℕ × ℕ)) (means : Meaning) → HasMeant trail txn given means → is_plain means ≡ false → HasAskedHere
+  pub asked-other : (given : List (ℕ × ℕ)) (means : Meaning) → HasMeant trail txn given means → is_asking means ≡ false → HasAskedHere
   asked-other given means has other =
       let on = way given means has in
       let now : Transaction = running on.asking (meant (take on.place (book_of trail)) on.said) (snapshot_at (book_of trail) on.place) (given ++ on.ids) in
@@ -326,6 +332,32 @@ abort-true trail txn (cause.Twice partition row) fits is = meant-here trail txn 
 abort-true trail txn (cause.Blocked holder) fits is = absurd is
 abort-true trail txn cause.Lost fits is = absurd is
 abort-true trail txn cause.Rollback fits is = absurd is
+
+-- ---- a compaction
+
+-- what is true of a transaction of that meaning, started at that place, is true of it
+way-here : (trail : List TrailItem) (txn : TxnId) (means : Meaning) (P : Transaction → Type 0) → Runs trail txn → (has : HasMeant trail txn [] means)
+    → ((t : Transaction) → meaning t ≡ Some means → place_of_snapshot t.snapshot ≡ has.was.place → P t) → Of (state_at trail) txn.0 P
+way-here trail txn means P runs has f =
+    let on = way trail txn runs [] means has in
+    let t : Transaction = running on.asking (meant (take on.place (book_of trail)) on.said) (snapshot_at (book_of trail) on.place) ([] ++ on.ids) in
+    subst (λ (o : Option Transaction). IsSomeAnd o P) (sym on.under_way.here) (f t on.means_it refl)
+
+module _ (trail : List TrailItem) (asked : AskFor) (runs : Runs trail asked.by) (due : IsJobDue trail asked) (idle : is_busy_then trail asked ≡ false) where
+  idle-then : (t : Transaction) → place_of_snapshot t.snapshot ≡ due.ask.was.place → was_busy (state_at trail) (place_of_snapshot t.snapshot) (ask_in asked) ≡ false
+  idle-then t at = ap (λ (place : ℕ). was_busy (state_at trail) place (ask_in asked)) (at ∙ due.started) ∙ idle
+
+  -- its statement asks for it now
+  pub job-true : IsAskedFor (state_at trail) (ask_in asked) asked.by.0
+  job-true =
+      inr (way-here trail asked.by (Ask asked.table asked.partition asked.kind) (AsksNow (state_at trail) (ask_in asked)) runs due.ask
+      (λ t is at. record { asks = ap asks_by is; now = idle-then t at }))
+
+  -- and it is true that it lacks room for it
+  pub job-lacks : IsCauseTrue trail asked.by cause.Full
+  job-lacks =
+      way-here trail asked.by (Ask asked.table asked.partition asked.kind) (CauseIsTrue (state_at trail) cause.Full) runs due.ask
+      (λ t is at. inr (subst (NeedsRoom (state_at trail) t) (sym is) (idle-then t at)))
 
 -- ---- a house
 

@@ -23,8 +23,9 @@ faults_in faults told = faults told.house.shelf
 abbrev pub IsOpenHouse : {D : Type 0} → ToldHouse D → Type 0
 IsOpenHouse told = told.house.trail.closed ≡ false
 
+-- it is closed, and not for want of memory
 abbrev pub IsShutHouse : {D : Type 0} → ToldHouse D → Type 0
-IsShutHouse told = told.house.trail.closed ≡ true
+IsShutHouse told = (told.house.trail.closed ≡ true) × (told.house.trail.starved ≡ false)
 
 -- ---- what one's own acts added
 
@@ -46,7 +47,7 @@ pub record IsShutBetween {D : Type 0} (meanwhile : ToldHouse D → ToldHouse D �
   pub found : ToldHouse D
   pub reached : meanwhile left found
   pub was : IsOpenHouse left
-  pub is : IsShutHouse found
+  pub is : found.house.trail.closed ≡ true
 
 -- its last call found the house open and failed: nothing was added then, and the journal reads to the book, or to it and what was to be noted
 pub record IsShutNow {D : Type 0} (told : D → Option Store) (txn : ℕ) (now : ToldHouse D) : Type 0 where

@@ -3,11 +3,14 @@ pub mod Aborting
 pub mod Answers
 pub mod Beginning
 pub mod Committing
+pub mod Compacting
 pub mod Counting
 pub mod Dropping
 pub mod Ending
+pub mod Few
 pub mod Giving
 pub mod Going
+pub mod Laters
 pub mod Making
 pub mod Meant
 pub mod Passing

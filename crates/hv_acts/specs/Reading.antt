@@ -24,7 +24,7 @@ use Rattle.hv_meta.specs.declared.facts.TxnState.TheVariants as standing
 use Rattle.hv_meta.specs.States.{state_in}
 use Rattle.hv_stands.specs.Reading.{table_of_name}
 use Rattle.hv_stands.specs.Statements.{AllFitting}
-use Rattle.hv_law_made.specs.Standing.{Standing, IsEncodingOf, is_live_at}
+use Rattle.hv_telling.specs.hv_house.specs.hv_finals.specs.hv_law_made.specs.Standing.{Standing, IsEncodingOf, is_live_at}
 use Rattle.hv_telling.specs.hv_house.specs.hv_law_read.specs.Needs.{IsNeededBy}
 use Rattle.hv_law_visible.specs.Members.{IsIn}
 use Rattle.hv_choosing.specs.declared.listing.DirFile.{DirFile}

@@ -55,6 +55,8 @@ impl<D: Shelf + Drop> Act<D, ToldHouse<D>> for AbortFor {
     ghost use Rattle.hv_telling.specs.Telling.{IsTold};
     ghost use Rattle.hv_acts.specs.Meant.{IsAbortDue};
     ghost use Rattle.hv_acts.specs.Answers.{HasItsMark, answer_call, answer_outcome, adds_entry, NoTest, EntryFits, Answers, AnswerLeaves};
+    ghost use Rattle.hv_acts.specs.Few.{few_entry};
+    ghost use Rattle.hv_acts.specs.Laters.{note_later};
 
     type Answer = Result<u64, ActFault>;
 
@@ -71,6 +73,13 @@ impl<D: Shelf + Drop> Act<D, ToldHouse<D>> for AbortFor {
         (EntryFits house.trail (entry.Abort act.txn act.cause))
         (λ (place : ℕ). place ≡ length (book_of house.trail)) answer
         × AnswerLeaves D.told D.faults act.txn.0 house now answer };
+
+    ghost most = { 1 };
+
+    ghost few = { λ act answer. few_entry (λ (place : ℕ). entry.Abort act.txn act.cause) answer };
+
+    ghost goes_on = { λ act answer before now step does.
+        note_later D.told D.faults (entry.Abort act.txn act.cause) act.txn.0 answer before now step does.1 };
 
     fn act(self, _alloc: Global, house: &mut ToldHouse<D>) -> Result<u64, ActFault> {
         if house.house.is_closed() {

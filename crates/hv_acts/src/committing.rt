@@ -246,6 +246,8 @@ impl<D: Shelf + Drop> Act<D, ToldHouse<D>> for CommitWrites {
     ghost use Rattle.hv_acts.specs.Meant.{IsCommitDue};
     ghost use Rattle.hv_acts.specs.Answers.{answer_outcome, AnswerLeaves};
     ghost use Rattle.hv_acts.specs.Committing.{CanBePut, call_to_commit, adds_commit, CommitAnswers};
+    ghost use Rattle.hv_acts.specs.Few.{few_commit};
+    ghost use Rattle.hv_acts.specs.Laters.{commit_later};
 
     type Answer = Result<Committed, ActFault>;
 
@@ -260,6 +262,13 @@ impl<D: Shelf + Drop> Act<D, ToldHouse<D>> for CommitWrites {
 
     ghost does = { λ act house now answer. CommitAnswers house.trail act.txn act.wrote act.name act.put answer
         × AnswerLeaves D.told D.faults act.txn.0 house now answer };
+
+    ghost most = { 1 };
+
+    ghost few = { λ act answer. few_commit act.txn act.wrote answer };
+
+    ghost goes_on = { λ act answer before now step does.
+        commit_later D.told D.faults act.txn act.wrote answer before now step does.1 };
 
     fn act(self, alloc: Global, house: &mut ToldHouse<D>) -> Result<Committed, ActFault> {
         if house.house.is_closed() {

@@ -38,6 +38,8 @@ impl<D: Shelf + Drop> Act<D, ToldHouse<D>> for CountDues {
     ghost use Rattle.hv_acts.specs.Answers.{answer_outcome};
     ghost use Rattle.hv_acts.specs.Reading.{HasPlace};
     ghost use Rattle.hv_acts.specs.Counting.{CountAnswers};
+    ghost use Rattle.hv_acts.specs.Few.{few_none};
+    ghost use Rattle.hv_acts.specs.Laters.{count_later};
 
     type Answer = Result<Vec<Due>, ActFault>;
 
@@ -50,6 +52,13 @@ impl<D: Shelf + Drop> Act<D, ToldHouse<D>> for CountDues {
     ghost adds = { λ act answer. [] };
 
     ghost does = { λ act house now answer. CountAnswers house act.place act.table answer };
+
+    ghost most = { 1 };
+
+    ghost few = { λ act answer. few_none };
+
+    ghost goes_on = { λ act answer before now step does.
+        count_later D.told D.faults act.place act.table answer before now step does };
 
     fn act(self, alloc: Global, house: &mut ToldHouse<D>) -> Result<Vec<Due>, ActFault> {
         if house.house.is_closed() {

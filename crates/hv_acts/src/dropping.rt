@@ -50,6 +50,8 @@ impl<D: Shelf + Drop> Act<D, ToldHouse<D>> for DropTable {
     ghost use Rattle.hv_acts.specs.Answers.{answer_call, answer_outcome, adds_entry, NoTest, Answers, AnswerLeaves};
     ghost use Rattle.hv_acts.specs.Meant.{IsDropMeant};
     ghost use Rattle.hv_acts.specs.Dropping.{CanDrop, IsDroppedAt, drop_of};
+    ghost use Rattle.hv_acts.specs.Few.{few_entry};
+    ghost use Rattle.hv_acts.specs.Laters.{note_later};
 
     type Answer = Result<u64, ActFault>;
 
@@ -64,6 +66,13 @@ impl<D: Shelf + Drop> Act<D, ToldHouse<D>> for DropTable {
     ghost does = { λ act house now answer. Answers NoTest house.trail act.txn (CanDrop house.trail act.txn act.table)
         (IsDroppedAt house.trail) answer
         × AnswerLeaves D.told D.faults act.txn.0 house now answer };
+
+    ghost most = { 1 };
+
+    ghost few = { λ act answer. few_entry (drop_of act.txn act.table) answer };
+
+    ghost goes_on = { λ act answer before now step does.
+        note_later D.told D.faults (entry.Drop act.txn act.table) act.txn.0 answer before now step does.1 };
 
     fn act(self, _alloc: Global, house: &mut ToldHouse<D>) -> Result<u64, ActFault> {
         if house.house.is_closed() {

@@ -103,6 +103,8 @@ impl<D: Shelf + Drop> Act<D, ToldHouse<D>> for TellEnd {
     ghost use Rattle.hv_trail.specs.Steps.{Ask};
     ghost use Rattle.hv_acts.specs.Answers.{answer_outcome};
     ghost use Rattle.hv_acts.specs.Ending.{EndAnswers};
+    ghost use Rattle.hv_acts.specs.Few.{few_none};
+    ghost use Rattle.hv_acts.specs.Laters.{tell_later};
 
     type Answer = Result<Option<EndTold>, ActFault>;
 
@@ -115,6 +117,13 @@ impl<D: Shelf + Drop> Act<D, ToldHouse<D>> for TellEnd {
     ghost adds = { λ act answer. [] };
 
     ghost does = { λ act house now answer. EndAnswers house act.txn answer };
+
+    ghost most = { 1 };
+
+    ghost few = { λ act answer. few_none };
+
+    ghost goes_on = { λ act answer before now step does.
+        tell_later D.told D.faults act.txn answer before now step does };
 
     fn act(self, alloc: Global, house: &mut ToldHouse<D>) -> Result<Option<EndTold>, ActFault> {
         if house.house.is_closed() {

@@ -37,6 +37,8 @@ impl<'a, D: Shelf + Drop> Act<D, ToldHouse<D>> for FindTable<'a> {
     ghost use Rattle.hv_trail.specs.Steps.{Ask};
     ghost use Rattle.hv_acts.specs.Answers.{answer_outcome};
     ghost use Rattle.hv_acts.specs.Reading.{HasPlace, FindAnswers};
+    ghost use Rattle.hv_acts.specs.Few.{few_none};
+    ghost use Rattle.hv_acts.specs.Laters.{find_later};
 
     type Answer = Result<Option<TableInfo>, ActFault>;
 
@@ -49,6 +51,13 @@ impl<'a, D: Shelf + Drop> Act<D, ToldHouse<D>> for FindTable<'a> {
     ghost adds = { λ act answer. [] };
 
     ghost does = { λ act house now answer. FindAnswers house act.place act.name.now answer };
+
+    ghost most = { 1 };
+
+    ghost few = { λ act answer. few_none };
+
+    ghost goes_on = { λ act answer before now step does.
+        find_later D.told D.faults act.place act.name.now answer before now step does };
 
     fn act(self, alloc: Global, house: &mut ToldHouse<D>) -> Result<Option<TableInfo>, ActFault> {
         if house.house.is_closed() {

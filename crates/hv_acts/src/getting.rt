@@ -37,6 +37,8 @@ impl<'a, D: Shelf + Drop> Act<D, ToldHouse<D>> for GetFile<'a> {
     ghost use Rattle.hv_trail.specs.Steps.{Read};
     ghost use Rattle.hv_telling.specs.hv_house.specs.Listing.{get_outcome};
     ghost use Rattle.hv_acts.specs.Reading.{GetAnswers, adds_getting, GetLeaves, GetRises};
+    ghost use Rattle.hv_acts.specs.Few.{few_getting};
+    ghost use Rattle.hv_acts.specs.Laters.{get_later};
 
     type Answer = Result<Vec<u8>, GetFault>;
 
@@ -50,6 +52,13 @@ impl<'a, D: Shelf + Drop> Act<D, ToldHouse<D>> for GetFile<'a> {
 
     ghost does = { λ act house now answer. GetAnswers D.told house act.by act.place.now answer
         × GetLeaves D.told D.faults act.by.0 house now answer × IfErr answer (GetRises D.faults house) };
+
+    ghost most = { 1 };
+
+    ghost few = { λ act answer. few_getting act.by answer };
+
+    ghost goes_on = { λ act answer before now step does.
+        get_later D.told D.faults (Read (Some (Txn act.by))) act.by.0 answer before now step does.1 does.2 };
 
     fn act(self, alloc: Global, house: &mut ToldHouse<D>) -> Result<Vec<u8>, GetFault> {
         if house.house.is_closed() {

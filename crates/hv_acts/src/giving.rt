@@ -112,6 +112,8 @@ impl<D: Shelf + Drop> Act<D, ToldHouse<D>> for GiveId {
     ghost use Rattle.hv_acts.specs.Answers.{answer_outcome, AnswerLeaves};
     ghost use Rattle.hv_acts.specs.Giving.{call_to_give, adds_given, GiveAnswers};
     ghost use Rattle.hv_acts.specs.Meant.{IsIdDue};
+    ghost use Rattle.hv_acts.specs.Few.{few_given};
+    ghost use Rattle.hv_acts.specs.Laters.{give_later};
 
     type Answer = Result<Given, ActFault>;
 
@@ -125,6 +127,13 @@ impl<D: Shelf + Drop> Act<D, ToldHouse<D>> for GiveId {
 
     ghost does = { λ act house now answer. GiveAnswers house.trail act.txn act.table answer
         × AnswerLeaves D.told D.faults act.txn.0 house now answer };
+
+    ghost most = { 1 };
+
+    ghost few = { λ act answer. few_given act.txn act.table answer };
+
+    ghost goes_on = { λ act answer before now step does.
+        give_later D.told D.faults act.txn act.table answer before now step does.1 };
 
     fn act(self, alloc: Global, house: &mut ToldHouse<D>) -> Result<Given, ActFault> {
         if house.house.is_closed() {

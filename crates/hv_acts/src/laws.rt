@@ -23,6 +23,8 @@ ghost use Rattle.hv_trail.specs.Steps.{begun};
 ghost use Rattle.hv_acts.specs.Answers.{HasItsMark, HasNotEnded};
 ghost use Rattle.hv_acts.specs.Putting.{HasIdFor};
 ghost use Rattle.hv_acts.specs.Committing.{CanBePut};
+ghost use Rattle.hv_acts.specs.Compacting.{IsJobDue};
+ghost use Rattle.hv_acts.specs.declared.compacting.AskFor.{AskFor};
 ghost use Rattle.hv_acts.specs.Meant.{RunsWith, MeansNow, HasMeant, IsFileMeant, IsIdDue, IsCommitDue, IsMakeMeant, IsDropMeant, IsAbortDue, IsNoEnd};
 
 /// What acts ask of a trail is true of every longer one too, whatever its further items are.
@@ -36,6 +38,8 @@ pub fn what_is_asked_lasts()
         → CanBePut before txn wrote places → CanBePut now txn wrote places }
     ensures due { (before now : List TrailItem) (txn : TxnId) (table : TableId) → IsFront before now
         → IsIdDue before txn table → IsIdDue now txn table }
+    ensures job { (before now : List TrailItem) (asked : AskFor) → IsFront before now
+        → IsJobDue before asked → IsJobDue now asked }
     ensures file { (before now : List TrailItem) (by : TxnId) (place : Place) (file : OutFile) → IsFront before now
         → IsFileMeant before by place file → IsFileMeant now by place file }
     ensures commit { (before now : List TrailItem) (txn : TxnId) (wrote : List Touch) (places : List Place)

@@ -58,6 +58,8 @@ impl<D: Shelf + Drop> Act<D, ToldHouse<D>> for ListTable {
     ghost use Rattle.hv_trail.specs.Steps.{Read};
     ghost use Rattle.hv_acts.specs.Answers.{answer_outcome, AnswerLeaves, WhyRises};
     ghost use Rattle.hv_acts.specs.Reading.{ReadsTable, ListAnswers, adds_listing};
+    ghost use Rattle.hv_acts.specs.Few.{few_listing};
+    ghost use Rattle.hv_acts.specs.Laters.{list_later};
 
     type Answer = Result<Listing, ActFault>;
 
@@ -71,6 +73,13 @@ impl<D: Shelf + Drop> Act<D, ToldHouse<D>> for ListTable {
 
     ghost does = { λ act house now answer. ListAnswers D.told house act.by act.place act.table answer
         × AnswerLeaves D.told D.faults act.by.0 house now answer × IfErr answer (WhyRises D.faults house) };
+
+    ghost most = { 1 };
+
+    ghost few = { λ act answer. few_listing act.by answer };
+
+    ghost goes_on = { λ act answer before now step does.
+        list_later D.told D.faults (Read (Some (Txn act.by))) act.by.0 answer before now step does.1 does.2 };
 
     fn act(self, alloc: Global, house: &mut ToldHouse<D>) -> Result<Listing, ActFault> {
         if house.house.is_closed() {

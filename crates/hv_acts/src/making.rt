@@ -64,6 +64,8 @@ impl<D: Shelf + Drop> Act<D, ToldHouse<D>> for MakeTable {
     ghost use Rattle.hv_acts.specs.Answers.{next_table, answer_call, answer_outcome, adds_entry, NoTest, Answers, AnswerLeaves};
     ghost use Rattle.hv_acts.specs.Meant.{IsMakeMeant};
     ghost use Rattle.hv_acts.specs.Making.{MakeFits, IsMadeAt, create_of};
+    ghost use Rattle.hv_acts.specs.Few.{few_entry};
+    ghost use Rattle.hv_acts.specs.Laters.{note_later};
 
     type Answer = Result<Made, ActFault>;
 
@@ -78,6 +80,14 @@ impl<D: Shelf + Drop> Act<D, ToldHouse<D>> for MakeTable {
     ghost does = { λ act house now answer. Answers NoTest house.trail act.txn (MakeFits house.trail act.txn)
         (IsMadeAt house.trail) answer
         × AnswerLeaves D.told D.faults act.txn.0 house now answer };
+
+    ghost most = { 1 };
+
+    ghost few = { λ act answer. few_entry (create_of act.txn) answer };
+
+    ghost goes_on = { λ act answer before now step does.
+        note_later D.told D.faults (entry.Create act.txn (next_table before.trail)) act.txn.0 answer before now
+        step does.1 };
 
     fn act(self, _alloc: Global, house: &mut ToldHouse<D>) -> Result<Made, ActFault> {
         if house.house.is_closed() {

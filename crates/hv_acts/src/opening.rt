@@ -79,6 +79,8 @@ impl<D: Shelf + Drop> Act<D, ToldHouse<D>> for Begin {
     ghost use Rattle.std.specs.Prelude.{◌≤◌, length};
     ghost use Rattle.hv_built.specs.Running.{Runs};
     ghost use Rattle.hv_acts.specs.Beginning.{begin_call, begin_outcome, adds_beginning, BeginAnswers, BeginLeaves};
+    ghost use Rattle.hv_acts.specs.Few.{few_beginning};
+    ghost use Rattle.hv_acts.specs.Laters.{begin_later};
 
     type Answer = Result<Begun, BeginFault>;
 
@@ -93,6 +95,14 @@ impl<D: Shelf + Drop> Act<D, ToldHouse<D>> for Begin {
     ghost does = { λ act house now answer. BeginAnswers house.trail act.tree answer
         × BeginLeaves D.told D.faults (record { session = act.session; number = act.number; text = act.text }) house now
         answer };
+
+    ghost most = { 2 };
+
+    ghost few = { λ act answer. few_beginning act.session act.number act.text answer };
+
+    ghost goes_on = { λ act answer before now step does.
+        begin_later D.told D.faults (record { session = act.session; number = act.number; text = act.text })
+        answer before now step does.1 };
 
     fn act(self, _alloc: Global, house: &mut ToldHouse<D>) -> Result<Begun, BeginFault> {
         if house.house.is_closed() {

@@ -58,6 +58,8 @@ impl<'a, D: Shelf + Drop> Act<D, ToldHouse<D>> for PutFile<'a> {
     ghost use Rattle.hv_telling.specs.Telling.{IsTold};
     ghost use Rattle.hv_acts.specs.Putting.{HasIdFor, adds_file};
     ghost use Rattle.hv_acts.specs.Meant.{RunsWith, IsFileMeant};
+    ghost use Rattle.hv_acts.specs.Few.{few_file};
+    ghost use Rattle.hv_acts.specs.Laters.{file_later};
 
     type Answer = Result<(), ActFault>;
 
@@ -73,6 +75,14 @@ impl<'a, D: Shelf + Drop> Act<D, ToldHouse<D>> for PutFile<'a> {
     ghost does = { λ act house now answer. Answers NoTest house.trail act.by (RunsWith house.trail act.by 1)
         (λ done. IsEncoded act.file.now) answer × AnswerLeaves D.told D.faults act.by.0 house now answer
         × IfErr answer (WhyRises D.faults house) };
+
+    ghost most = { 1 };
+
+    ghost few = { λ act answer. few_file act.by act.place answer };
+
+    ghost goes_on = { λ act answer before now step does.
+        file_later D.told D.faults (Put (Txn act.by) act.place (bytes_of act.file.now)) act.by.0 answer before
+        now step does.1 does.2 };
 
     fn act(self, alloc: Global, house: &mut ToldHouse<D>) -> Result<(), ActFault> {
         if house.house.is_closed() {

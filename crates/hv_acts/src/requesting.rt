@@ -72,6 +72,8 @@ fn ask_abort<D: Shelf>(
 impl<D: Shelf + Drop> Act<D, ToldHouse<D>> for AskAbort {
     ghost use Rattle.hv_acts.specs.Answers.{answer_outcome, AnswerLeaves};
     ghost use Rattle.hv_acts.specs.Requesting.{call_to_request, adds_request, RequestAnswers};
+    ghost use Rattle.hv_acts.specs.Few.{few_request};
+    ghost use Rattle.hv_acts.specs.Laters.{request_later};
 
     type Answer = Result<bool, ActFault>;
 
@@ -85,6 +87,13 @@ impl<D: Shelf + Drop> Act<D, ToldHouse<D>> for AskAbort {
 
     ghost does = { λ act house now answer. RequestAnswers house.trail act.by act.place act.txn answer
         × AnswerLeaves D.told D.faults act.by.0 house now answer };
+
+    ghost most = { 1 };
+
+    ghost few = { λ act answer. few_request act.by act.txn answer };
+
+    ghost goes_on = { λ act answer before now step does.
+        request_later D.told D.faults act.by act.txn answer before now step does.1 };
 
     fn act(self, _alloc: Global, house: &mut ToldHouse<D>) -> Result<bool, ActFault> {
         if house.house.is_closed() {

@@ -43,6 +43,8 @@ impl<'a, D: Shelf + Drop> Act<D, ToldHouse<D>> for ShowBook<'a> {
     ghost use Rattle.hv_acts.specs.Answers.{answer_outcome};
     ghost use Rattle.hv_acts.specs.Reading.{HasPlace};
     ghost use Rattle.hv_acts.specs.Showing.{ShowAnswers};
+    ghost use Rattle.hv_acts.specs.Few.{few_none};
+    ghost use Rattle.hv_acts.specs.Laters.{show_later};
 
     type Answer = Result<Option<Shown>, ActFault>;
 
@@ -55,6 +57,13 @@ impl<'a, D: Shelf + Drop> Act<D, ToldHouse<D>> for ShowBook<'a> {
     ghost adds = { λ act answer. [] };
 
     ghost does = { λ act house now answer. ShowAnswers house act.place act.what.now answer };
+
+    ghost most = { 1 };
+
+    ghost few = { λ act answer. few_none };
+
+    ghost goes_on = { λ act answer before now step does.
+        show_later D.told D.faults act.place act.what.now answer before now step does };
 
     fn act(self, alloc: Global, house: &mut ToldHouse<D>) -> Result<Option<Shown>, ActFault> {
         if house.house.is_closed() {

@@ -276,6 +276,8 @@ impl<D: Shelf + Drop> Act<D, ToldHouse<D>> for OpenTransaction {
     ghost use Rattle.hv_trail.specs.Steps.{Note};
     ghost use Rattle.hv_acts.specs.Answers.{answer_call, answer_outcome, adds_entry};
     ghost use Rattle.hv_acts.specs.Waiting.{next_opened, OpenAnswers, OpenLeaves};
+    ghost use Rattle.hv_acts.specs.Few.{few_entry};
+    ghost use Rattle.hv_acts.specs.Laters.{open_later};
 
     type Answer = Result<TxnId, ActFault>;
 
@@ -292,6 +294,15 @@ impl<D: Shelf + Drop> Act<D, ToldHouse<D>> for OpenTransaction {
     ghost does = { λ act house now answer. OpenAnswers house.trail answer
         × OpenLeaves D.told D.faults (record { session = act.session; number = act.number; text = act.text }) house now
         answer };
+
+    ghost most = { 1 };
+
+    ghost few = { λ act answer.
+        few_entry (λ (txn : TxnId). entry.Opened txn act.session act.number act.text) answer };
+
+    ghost goes_on = { λ act answer before now step does.
+        open_later D.told D.faults (record { session = act.session; number = act.number; text = act.text })
+        answer before now step does.1 };
 
     fn act(self, _alloc: Global, house: &mut ToldHouse<D>) -> Result<TxnId, ActFault> {
         if house.house.is_closed() {
@@ -315,6 +326,8 @@ impl<D: Shelf + Drop> Act<D, ToldHouse<D>> for StartTransaction {
     ghost use Rattle.hv_trail.specs.Steps.{Note};
     ghost use Rattle.hv_acts.specs.Answers.{answer_call, answer_outcome, adds_entry, AnswerLeaves};
     ghost use Rattle.hv_acts.specs.Waiting.{StartAnswers};
+    ghost use Rattle.hv_acts.specs.Few.{few_entry};
+    ghost use Rattle.hv_acts.specs.Laters.{note_later};
 
     type Answer = Result<u64, ActFault>;
 
@@ -329,6 +342,13 @@ impl<D: Shelf + Drop> Act<D, ToldHouse<D>> for StartTransaction {
     ghost does = { λ act house now answer. StartAnswers house.trail act.txn answer
         × AnswerLeaves D.told D.faults act.txn.0 house now answer };
 
+    ghost most = { 1 };
+
+    ghost few = { λ act answer. few_entry (λ (place : ℕ). entry.Start act.txn 0) answer };
+
+    ghost goes_on = { λ act answer before now step does.
+        note_later D.told D.faults (entry.Start act.txn 0) act.txn.0 answer before now step does.1 };
+
     fn act(self, _alloc: Global, house: &mut ToldHouse<D>) -> Result<u64, ActFault> {
         if house.house.is_closed() {
             Err(ActFault::House(HouseFault::Store))
@@ -341,6 +361,8 @@ impl<D: Shelf + Drop> Act<D, ToldHouse<D>> for StartTransaction {
 impl<D: Shelf + Drop> Act<D, ToldHouse<D>> for StartOrAbort {
     ghost use Rattle.hv_acts.specs.Answers.{answer_outcome, AnswerLeaves};
     ghost use Rattle.hv_acts.specs.Starting.{call_to_start, adds_started, StartOrAbortAnswers};
+    ghost use Rattle.hv_acts.specs.Few.{few_started};
+    ghost use Rattle.hv_acts.specs.Laters.{start_later};
 
     type Answer = Result<Started, ActFault>;
 
@@ -354,6 +376,13 @@ impl<D: Shelf + Drop> Act<D, ToldHouse<D>> for StartOrAbort {
 
     ghost does = { λ act house now answer. StartOrAbortAnswers house.trail act.txn answer
         × AnswerLeaves D.told D.faults act.txn.0 house now answer };
+
+    ghost most = { 1 };
+
+    ghost few = { λ act answer. few_started act.txn answer };
+
+    ghost goes_on = { λ act answer before now step does.
+        start_later D.told D.faults act.txn answer before now step does.1 };
 
     fn act(self, alloc: Global, house: &mut ToldHouse<D>) -> Result<Started, ActFault> {
         if house.house.is_closed() {

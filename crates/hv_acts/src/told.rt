@@ -12,7 +12,7 @@ use hv_telling::hv_house::House;
 /// legal and its files stand, between any two of them. Where it is closed, the store's hard count rose since it was opened.
 #[derive(Drop)]
 pub struct ToldHouse<D> {
-    pub(crate) house: House<D>,
+    pub house: House<D>,
 }
 
 impl<D: Shelf> ToldHouse<D> {

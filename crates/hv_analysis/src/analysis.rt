@@ -2,8 +2,9 @@
 
 ghost use Rattle.std.specs.Prelude.{◌≡◌};
 ghost use Rattle.hv_typing.specs.Faults.{Types};
-ghost use Rattle.hv_typing.specs.Analysis.{query_analysed, change_analysed, merge_analysed, form_analysed, analysed};
+ghost use Rattle.hv_typing.specs.Analysis.{query_analysed, explain_analysed, change_analysed, merge_analysed, form_analysed, analysed};
 
+use crate::asks::asked;
 use crate::changes::change_of;
 use crate::creates::created;
 use crate::descriptions::described;
@@ -26,6 +27,13 @@ fn query_analysed(alloc: Global, tables: &[TableInfo], query: &Query) -> Result<
 {
     let query = selected(alloc, tables, query)?;
     Ok(Logic::Query(query.into_inner()))
+}
+
+fn explain_analysed(alloc: Global, tables: &[TableInfo], query: &Query) -> Result<Logic, TypeFault>
+    ensures { Types result (explain_analysed tables.now query.now) }
+{
+    let query = selected(alloc, tables, query)?;
+    Ok(Logic::Explain(query.into_inner()))
 }
 
 fn change_analysed(
@@ -60,8 +68,10 @@ fn form_analysed(alloc: Global, tables: &[TableInfo], stmt: &Stmt) -> Result<Log
         Stmt::DropTable(drop) => dropped(tables, drop),
         Stmt::Show(show) => show_analysed(tables, show),
         Stmt::Describe(table) => described(alloc, tables, table),
+        Stmt::Compact(compact) => asked(alloc, tables, compact),
         Stmt::Set(setting) => set_analysed(setting),
         Stmt::AbortTransactions(_) => Ok(Logic::Nothing),
+        Stmt::Explain(query) => explain_analysed(alloc, tables, query),
         _ => Err(SYNTAX),
     }
 }

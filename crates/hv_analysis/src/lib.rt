@@ -2,6 +2,7 @@
 #![tactic(auto)]
 
 mod analysis;
+mod asks;
 mod changes;
 mod creates;
 mod descriptions;

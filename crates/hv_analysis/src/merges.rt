@@ -8,8 +8,8 @@ use crate::creates::place_of;
 use crate::queries::brought;
 use hv_ast::Merge;
 use hv_base::Refusal;
-use hv_changes::merge_over;
 use hv_logic::TableInfo;
+use hv_merges::merge_over;
 use hv_typing::{TypeFault, TypedMerge};
 use std::alloc::Global;
 

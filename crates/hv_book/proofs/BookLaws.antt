@@ -21,6 +21,8 @@ use Rattle.hv_history.specs.declared.state.Transaction.{Transaction}
 use Rattle.hv_history.specs.declared.state.Table.{Table}
 use Rattle.hv_history.specs.Book.{tree_at}
 use Rattle.hv_book.specs.Briefs.{brief, end_of, tree_in, session_at, session_of, session_in, text_tree, shape_at, table_shape}
+use Rattle.hv_book.specs.Said.{said, said_at}
+use Rattle.hv_book.proofs.SaidLaws.{said-there}
 use Rattle.hv_book.proofs.HeldLaws.{HeldFollows, held-next}
 use Rattle.hv_book.proofs.CommitLaws.{AreCommits, IsTold, commits-next, told-of}
 use Rattle.hv_history.specs.declared.state.Ending.{Ending}
@@ -206,9 +208,9 @@ boots-below xs =
 
 -- ---- texts
 
-met : (t : Option Stmt) (o : Option Transaction) → Some t ≡ option_map opening_tree o → t ≡ tree_in o
+met : (t : Option Stmt) (o : Option Transaction) → Some t ≡ option_map opening_tree o → option_map said t ≡ tree_in o
 met t None e = cc
-met t (Some transaction) e = cc
+met t (Some transaction) e = let same : t ≡ opening_tree transaction = cc in ap (option_map said) same
 
 missed : (o : Option Transaction) → None ≡ option_map opening_tree o → None ≡ tree_in o
 missed None e = refl
@@ -220,8 +222,10 @@ trees-numbered xs txn =
     ∙ numbered-map opening_tree (state_of xs).transactions txn
 
 pub tree-known : (xs : List Entry) (txn place : ℕ) → Some place ≡ numbered (notes_of xs).opened txn
-    → tree_at xs place ≡ tree_in (numbered (state_of xs).transactions txn)
-tree-known xs txn place e = met (tree_at xs place) (numbered (state_of xs).transactions txn) (ap (option_map (tree_at xs)) e ∙ trees-numbered xs txn)
+    → said_at xs place ≡ tree_in (numbered (state_of xs).transactions txn)
+tree-known xs txn place e =
+    said-there xs place
+    ∙ met (tree_at xs place) (numbered (state_of xs).transactions txn) (ap (option_map (tree_at xs)) e ∙ trees-numbered xs txn)
 
 pub tree-unknown : (xs : List Entry) (txn : ℕ) → None ≡ numbered (notes_of xs).opened txn
     → None ≡ tree_in (numbered (state_of xs).transactions txn)

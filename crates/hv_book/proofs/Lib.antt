@@ -1,5 +1,6 @@
 pub mod NoteLaws
 pub mod TextLaws
+pub mod SaidLaws
 pub mod CommitLaws
 pub mod HeldLaws
 pub mod TableLaws

@@ -18,8 +18,9 @@ use Rattle.hv_history.specs.Book.{tree_at}
 use Rattle.hv_history.specs.declared.entry.Entry.{Entry}
 use Rattle.hv_history.specs.declared.entry.Entry.TheVariants as entry
 use Rattle.hv_ast.specs.declared.statement.Stmt.{Stmt}
-use Rattle.hv_logic.specs.declared.catalog.Shape.{Shape}
+use Rattle.hv_history.specs.hv_meaning.specs.hv_typing.specs.hv_logic.specs.declared.catalog.Shape.{Shape}
 use Rattle.hv_book.specs.Notes.{note_open}
+use Rattle.hv_book.specs.Said.{said}
 
 abbrev pub end_of : Ending → End
 end_of (Committed place wrote) = record { at = place; committed = true }
@@ -83,10 +84,10 @@ abbrev pub given_at : Option Transaction → List (ℕ × ℕ)
 given_at None = []
 given_at (Some transaction) = given_while transaction.ending transaction.given
 
--- the tree of the text that opened the transaction of that number
+-- what is kept of the tree of the text that opened the transaction of that number
 abbrev pub tree_in : Option Transaction → Option Stmt
 tree_in None = None
-tree_in (Some transaction) = opening_tree transaction
+tree_in (Some transaction) = option_map said (opening_tree transaction)
 
 -- the session of the transaction that an entry opened
 abbrev pub session_of_entry : Entry → Option (List ℕ)

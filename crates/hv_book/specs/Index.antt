@@ -10,7 +10,7 @@ use Rattle.hv_book.specs.Past.{PastSpares, AreTabled, IsPast, past_in}
 use Rattle.hv_book.specs.Names.{IsNamed}
 use Rattle.hv_book.specs.Opened.{AreOpened}
 use Rattle.hv_book.specs.Notes.{Notes, notes_of}
-use Rattle.hv_history.specs.Book.{tree_of_entry}
+use Rattle.hv_book.specs.Said.{said_of_entry}
 use Rattle.hv_history.specs.State.{Openings, state_of}
 
 abbrev pub notes_in : Index → Notes
@@ -41,7 +41,7 @@ openings_in notes = record { count = notes.count; last = notes.last; only_lost =
 
 -- what is kept beside the entries is theirs, and there is room beside them for as many as the index has room for
 pub record IsIndexed (entries : Vec Entry) (trees : Vec (Option Stmt)) (index : Index) (openings : OpeningNotes) (kept : PastNotes) (names : Vec ℕ) : Type 0 where
-  pub tree : trees.items ≡ map tree_of_entry entries.items
+  pub tree : trees.items ≡ map said_of_entry entries.items
   pub notes : notes_in index ≡ notes_of entries.items
   pub opening : openings_in openings ≡ (state_of entries.items).openings
   pub opened : AreOpened entries.items index.opened.items

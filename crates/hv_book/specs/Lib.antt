@@ -1,5 +1,6 @@
 pub use Rattle.hv_history as hv_history
 pub mod Notes
+pub mod Said
 pub mod Briefs
 pub mod Index
 pub mod Commits

@@ -4,6 +4,7 @@ use crate::names::{has_name, has_named, name_place, note_names};
 use crate::notes::{End, Held, TableNote, TransactionNote, append};
 use crate::openings::OpeningNotes;
 use crate::past::PastNotes;
+use crate::said::kept;
 use hv_ast::Stmt;
 use hv_base::{List, NoMemory, Text, Touch};
 use hv_history::{Entry, numbered};
@@ -11,11 +12,12 @@ use std::alloc::Global;
 use std::marker::Model;
 
 /// The list of the journal's entries, which is the warehouse's history. Beside each entry that has a
-/// text it keeps that text's tree, and beside them all what is asked often: so nobody walks them. `names` has
-/// the numbers of the live tables, by name.
+/// text it keeps that text's tree without the rows that an INSERT writes out, and beside them all what is asked
+/// often: so nobody walks them. `names` has the numbers of the live tables, by name.
 /// Contracts see the entries, and how many more fit without asking for memory.
 #[derive(Drop)]
 pub struct Book {
+    alloc: Global,
     entries: Vec<Entry>,
     trees: Vec<Option<Stmt>>,
     index: Index,
@@ -36,13 +38,14 @@ impl Model for Book {
 }
 
 impl Book {
-    ghost use Rattle.std.specs.Prelude.{◌≡◌, ℕ, ◌+◌, ◌*◌, ◌^◌, ◌<◌, ◌≤◌, ◌++◌, ◌∷◌, [], Some, map, OnOk, OnErr, IsOk};
-    ghost use Rattle.std.specs.Option.{option_copied};
+    ghost use Rattle.std.specs.Prelude.{◌≡◌, ℕ, ◌+◌, ◌*◌, ◌^◌, ◌<◌, ◌≤◌, ◌++◌, ◌∷◌, [], Some, map, OnOk, IsOk};
+    ghost use Rattle.std.specs.Option.{option_copied, option_map};
     ghost use Rattle.hv_history.specs.declared.state.Table.{Table};
-    ghost use Rattle.hv_history.specs.Book.{tree_of_entry, tree_at};
+    ghost use Rattle.hv_history.specs.Book.{tree_of_entry};
     ghost use Rattle.hv_history.specs.State.{state_of, numbered, created_shape};
     ghost use Rattle.hv_history.specs.Legal.{load, is_named};
-    ghost use Rattle.hv_book.specs.Briefs.{brief, brief_table, brief_job, open_from, held_by, given_at, tree_in, session_at, session_in, text_tree};
+    ghost use Rattle.hv_book.specs.Briefs.{brief, brief_table, brief_job, open_from, held_by, given_at, tree_in, session_at, session_in};
+    ghost use Rattle.hv_book.specs.Said.{said, said_of_entry, said_at, said_text};
     ghost use Rattle.hv_book.specs.Index.{openings_in};
     ghost use Rattle.hv_book.specs.Past.{IsPast, past_in};
     ghost use Rattle.hv_book.specs.Opened.{AreOpened};
@@ -58,6 +61,7 @@ impl Book {
         ensures entries { result.entries ≡ [] }
     {
         Book {
+            alloc,
             entries: Vec::new(alloc),
             trees: Vec::new(alloc),
             index: Index::new(alloc),
@@ -73,9 +77,9 @@ impl Book {
         self.entries.as_slice()
     }
 
-    /// The tree beside the entry at this place, from 0. None where the entry has no text.
+    /// What is kept of the tree beside the entry at this place, from 0. None where the entry has no text.
     pub fn tree(&self, at: usize) -> Option<&Stmt>
-        ensures tree { option_copied result ≡ tree_at self.now.entries at }
+        ensures tree { option_copied result ≡ said_at self.now.entries at }
     {
         match self.trees.get(at) {
             Some(tree) => tree.as_ref(),
@@ -205,7 +209,7 @@ impl Book {
         &self.past
     }
 
-    /// The tree of the text that opened the transaction of this number.
+    /// What is kept of the tree of the text that opened the transaction of this number.
     pub fn opening_tree(&self, txn: u64) -> Option<&Stmt>
         ensures tree { option_copied result
             ≡ tree_in (numbered (state_of self.now.entries).transactions txn) }
@@ -237,7 +241,7 @@ impl Book {
         }
     }
 
-    /// The tree of the text that made the table of this number.
+    /// What is kept of the tree of the text that made the table of this number.
     pub fn table_tree(&self, table: u64) -> Option<&Stmt>
         ensures shape { (t : Table) → numbered (state_of self.now.entries).tables table ≡ Some t
             → t.info.shape ≡ created_shape (option_copied result) }
@@ -248,9 +252,9 @@ impl Book {
         }
     }
 
-    /// The tree of the text at a place, where there is one.
+    /// What is kept of the tree of the text at a place, where there is one.
     fn text_tree(&self, text: Option<u64>) -> Option<&Stmt>
-        ensures tree { option_copied result ≡ text_tree self.now.entries text }
+        ensures tree { option_copied result ≡ said_text self.now.entries text }
     {
         match text {
             Some(place) => self.tree(place as usize),
@@ -276,28 +280,21 @@ impl Book {
         self.index.reserve(more)
     }
 
-    /// Appends an entry with its text's tree, which is there exactly where it has a text.
-    pub fn push(&mut self, entry: Entry, tree: Option<Stmt>) -> Result<(), NoMemory>
-        requires tree { tree ≡ tree_of_entry entry }
-        ensures ok { OnOk result (self.new.entries ≡ self.old.entries ++ entry ∷ []) }
-        ensures err { OnErr result (self.new.entries ≡ self.old.entries) }
-        ensures spare { self.old.spare ≤ self.new.spare + 1 }
-        ensures room { 0 < self.old.spare → IsOk result }
-    {
-        if self.reserve(1).is_ok() {
-            self.put(entry, tree);
-            Ok(())
-        } else {
-            discard(entry);
-            discard(tree);
-            Err(NoMemory)
-        }
-    }
-
-    /// Appends where there is room.
-    fn put(&mut self, entry: Entry, tree: Option<Stmt>)
+    /// Appends an entry where there is room, with its text's tree, which is there exactly where it has a text. What is
+    /// kept of it has no rows that an INSERT writes out.
+    pub fn put(&mut self, entry: Entry, tree: Option<Stmt>)
         requires room { 0 < self.old.spare }
         requires tree { tree ≡ tree_of_entry entry }
+        ensures entries { self.new.entries ≡ self.old.entries ++ entry ∷ [] }
+        ensures spare { self.old.spare ≤ self.new.spare + 1 }
+    {
+        self.put_said(entry, tree);
+    }
+
+    /// Appends an entry where there is room, with what is kept of its text's tree, or with more of it.
+    pub fn put_said(&mut self, entry: Entry, tree: Option<Stmt>)
+        requires room { 0 < self.old.spare }
+        requires tree { option_map said tree ≡ said_of_entry entry }
         ensures entries { self.new.entries ≡ self.old.entries ++ entry ∷ [] }
         ensures spare { self.old.spare ≤ self.new.spare + 1 }
     {
@@ -309,8 +306,7 @@ impl Book {
         self.index.note(place, &entry);
         self.openings.note(place, &entry);
         append(&mut self.entries, entry);
-        append(&mut self.trees, tree);
+        let light = kept(self.alloc, tree);
+        append(&mut self.trees, light);
     }
 }
-
-fn discard<T: Drop>(_value: T) {}

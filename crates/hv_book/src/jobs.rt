@@ -72,7 +72,8 @@ fn append(items: &mut Vec<JobNote>, item: JobNote)
     items.push(item).unwrap();
 }
 
-fn stepped(job: JobNote, step: Step) -> JobNote
+/// The job behind a step.
+pub fn stepped(job: JobNote, step: Step) -> JobNote
     ensures { result ≡ stepped step job }
 {
     let mut next = job;

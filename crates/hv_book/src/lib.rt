@@ -10,9 +10,10 @@ mod names;
 mod notes;
 mod openings;
 mod past;
+mod said;
 
 pub use book::Book;
-pub use jobs::{JobNote, JobRange, Jobs, Step};
+pub use jobs::{JobNote, JobRange, Jobs, Step, stepped};
 pub use notes::{End, Held, TableNote, TransactionNote, is_open};
 pub use openings::OpeningNotes;
 pub use past::{ForgotNote, PastNotes, SpanNote};

@@ -2,7 +2,7 @@ ghost use Rattle.std.specs.Prelude.{◌≡◌, ◌+◌, ◌<◌, ◌≤◌, leng
 ghost use Rattle.std.specs.Cmp.Lexicographic.{pointwise};
 ghost use Rattle.std.specs.Option.{option_copied};
 ghost use Rattle.std.specs.List.{list_any};
-ghost use Rattle.hv_history.specs.State.{state_of, created_shape};
+ghost use Rattle.hv_history.specs.State.{state_of, numbered, created_shape, made_shape};
 ghost use Rattle.hv_history.specs.Legal.{is_named};
 ghost use Rattle.hv_book.specs.Names.{name_at, NamesRise, IsNamed, IsNamePoint, IsNamePlace, names_behind};
 
@@ -19,6 +19,13 @@ fn made_name(tree: Option<&Stmt>) -> &str
         Some(Stmt::CreateTable(create)) => create.table.as_str(),
         _ => "",
     }
+}
+
+/// The name of the table that the text makes which opened the transaction of this number, empty where it makes none.
+fn name_by(book: &Book, txn: u64) -> &str
+    ensures name { result.now ≡ (made_shape (numbered (state_of book.now.entries).transactions txn)).name }
+{
+    made_name(book.opening_tree(txn))
 }
 
 /// The name of the table of this number, empty where there is none.
@@ -65,9 +72,7 @@ pub fn name_place(book: &Book, numbers: &[u64], entry: &Entry) -> usize
     ensures place { IsNamePlace (state_of book.now.entries) numbers.now entry.now result }
 {
     match entry {
-        Entry::Create { txn, .. } => {
-            names_below(book, numbers, made_name(book.opening_tree(txn.0)))
-        }
+        Entry::Create { txn, .. } => { names_below(book, numbers, name_by(book, txn.0)) }
         _ => 0,
     }
 }

@@ -1,9 +1,8 @@
 ghost use Rattle.std.specs.Prelude.{◌≡◌};
 ghost use Rattle.hv_typing.specs.Analysis.{are_windowless, is_form};
-ghost use Rattle.hv_typing.specs.Shows.{is_shown};
 
 use crate::windows::{is_windowless, is_windowless_source};
-use hv_ast::{Rows, Show, Stmt};
+use hv_ast::{Rows, Stmt};
 
 fn are_windowless(rows: &Rows) -> bool
     ensures { result ≡ are_windowless rows.now }
@@ -11,16 +10,6 @@ fn are_windowless(rows: &Rows) -> bool
     match rows {
         Rows::Values(_) => true,
         Rows::Query(query) => is_windowless(query),
-    }
-}
-
-fn is_shown(show: &Show) -> bool
-    ensures { result ≡ is_shown show.now }
-{
-    match show {
-        Show::Compactions => false,
-        Show::Partitions(_) => true,
-        Show::Tables | Show::Transactions | Show::Locks => true,
     }
 }
 
@@ -38,9 +27,10 @@ pub(crate) fn is_form(stmt: &Stmt) -> bool
         Stmt::Truncate(_) => true,
         Stmt::CreateTable(_) => true,
         Stmt::DropTable(_) => true,
-        Stmt::Show(show) => is_shown(show),
-        Stmt::Describe(_) => true,
+        Stmt::Show(_) | Stmt::Describe(_) => true,
+        Stmt::Compact(_) => true,
         Stmt::Set(_) | Stmt::AbortTransactions(_) => true,
+        Stmt::Explain(query) => is_windowless(query),
         _ => false,
     }
 }

@@ -1,3 +1,2 @@
 pub mod Orders
 pub mod PartsAlike
-pub mod Fields

@@ -51,7 +51,7 @@ pub(crate) fn fields_of(alloc: Global, shape: &Shape) -> Result<List<Field>, NoM
     fields_named(alloc, &shape.name, columns.as_slice())
 }
 
-pub(crate) fn column_kinds(alloc: Global, columns: &[Column]) -> Result<Vec<SqlType>, NoMemory>
+pub fn column_kinds(alloc: Global, columns: &[Column]) -> Result<Vec<SqlType>, NoMemory>
     ensures { IfOk result (λ kinds. kinds.items ≡ kinds_of columns.now) }
 {
     let mut kinds = Vec::with_capacity(alloc, columns.len())?;

@@ -58,7 +58,7 @@ fn is_item(items: &[PartitionItem], name: &Text) -> bool
     false
 }
 
-fn are_items(items: &[PartitionItem], columns: &[Column]) -> bool
+pub(crate) fn are_items(items: &[PartitionItem], columns: &[Column]) -> bool
     ensures { result ≡ are_items items.now columns.now }
 {
     for column in columns {

@@ -135,7 +135,7 @@ fn one_set(
 }
 
 #[tactic(auto, unfolding(hv_typing::specs::Updates::all_set))]
-pub(crate) fn all_set(
+pub fn all_set(
     alloc: Global,
     shape: &Shape,
     columns: &[Column],

@@ -66,7 +66,7 @@ pub(crate) fn all_counted(count: usize, rows: &[List<TypedExpr>]) -> bool
     true
 }
 
-pub(crate) fn converts(columns: &[Column], row: &[TypedExpr]) -> bool
+pub fn converts(columns: &[Column], row: &[TypedExpr]) -> bool
     ensures { result ≡ converts columns.now row.now }
 {
     let mut rest = columns;
@@ -111,7 +111,7 @@ fn behind_first(columns: &[Column]) -> &[Column]
     }
 }
 
-pub(crate) fn converted_row(
+pub fn converted_row(
     alloc: Global,
     columns: &[Column],
     row: List<TypedExpr>,

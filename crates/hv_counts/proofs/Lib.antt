@@ -1,3 +1,4 @@
 pub mod Levels
 pub mod Told
 pub mod DueLaws
+pub mod Wanting

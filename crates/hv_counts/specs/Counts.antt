@@ -1,6 +1,6 @@
 -- How many rows the commits of a table say that they inserted and deleted, by write id and partition, and whether the files that were
 -- read of it have so many records.
-use Rattle.std.specs.Prelude.{◌≡◌, ℕ, ◌+◌, ◌==◌, ◌&&◌, nat_eq, Bool, true, false, Option, Some, None, List, [], ◌∷◌, ◌++◌, length}
+use Rattle.std.specs.Prelude.{◌≡◌, ℕ, ◌+◌, ◌==◌, ◌&&◌, nat_eq, Bool, true, false, Option, Some, None, List, [], ◌∷◌, ◌++◌, length, filter}
 use Rattle.std.specs.List.{flat_map, AllByRecursion}
 use Rattle.std.specs.Cmp.Lexicographic.{pointwise}
 use Rattle.hv_base.specs.declared.ids.Touch.{Touch}
@@ -58,6 +58,13 @@ due_at deletes write partition due = only_if (is_due write partition due) (due_r
 abbrev pub due_sum : Bool → ℕ → List ℕ → List Due → ℕ
 due_sum deletes write partition dues = total (due_at deletes write partition) dues
 
+-- those of partitions that are wanted
+abbrev pub is_due_wanted : (List ℕ → Bool) → Due → Bool
+is_due_wanted wants due = wants due.partition
+
+abbrev pub dues_wanted : (List ℕ → Bool) → List Due → List Due
+dues_wanted wants dues = filter (is_due_wanted wants) dues
+
 -- ---- what files have
 
 -- an own directory of this write id, of either kind
@@ -76,6 +83,9 @@ stored_at write partition sheet = only_if (is_stored write partition sheet.file)
 abbrev pub stored_sum : ℕ → List ℕ → List Sheet → ℕ
 stored_sum write partition sheets = total (stored_at write partition) sheets
 
+abbrev pub sheets_wanted : (List ℕ → Bool) → List Sheet → List Sheet
+sheets_wanted wants sheets = filter (λ (sheet : Sheet). wants sheet.file.place.partition) sheets
+
 -- ---- whether both are the same
 
 -- The files of a kind that were read have as many records of each write id in each partition as the commits say.
@@ -85,3 +95,9 @@ IsCounted deletes dues sheets = (write : ℕ) (partition : List ℕ) → stored_
 -- It is asked only where each file stands in an own directory: a base or a wide delta doesn't keep the rows that were deleted since.
 abbrev pub AreOwn : List DirFile → Type 0
 AreOwn files = AllByRecursion IsOwnFile files
+
+-- Files that have as many records as the commits say have so in the partitions that are wanted.
+abbrev pub WantedAreCounted : Type 0
+WantedAreCounted =
+    (wants : List ℕ → Bool) (deletes : Bool) (dues : List Due) (sheets : List Sheet) → IsCounted deletes dues sheets
+    → IsCounted deletes (dues_wanted wants dues) (sheets_wanted wants sheets)

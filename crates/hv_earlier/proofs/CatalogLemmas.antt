@@ -6,14 +6,14 @@ use Rattle.std.specs.List.{slice_get}
 use Rattle.std.proofs.lemmas.List.{append-nil, drop_all}
 use Rattle.hv_ast.specs.declared.statement.Stmt.{Stmt}
 use Rattle.hv_logic.specs.declared.catalog.TableInfo.{TableInfo}
-use Rattle.hv_history.specs.declared.entry.Entry.{Entry}
-use Rattle.hv_history.specs.declared.state.Table.{Table}
-use Rattle.hv_history.specs.State.{State, numbered, state_of, created_shape}
-use Rattle.hv_history.specs.Lasting.{TableLater}
-use Rattle.hv_history.proofs.LastingLaws.{goes-on-all}
-use Rattle.hv_book.specs.declared.notes.TableNote.{TableNote}
-use Rattle.hv_book.specs.Briefs.{brief_table}
-use Rattle.hv_book.specs.Past.{table_live}
+use Rattle.hv_meta.specs.hv_book.specs.hv_history.specs.declared.entry.Entry.{Entry}
+use Rattle.hv_meta.specs.hv_book.specs.hv_history.specs.declared.state.Table.{Table}
+use Rattle.hv_meta.specs.hv_book.specs.hv_history.specs.State.{State, numbered, state_of, created_shape}
+use Rattle.hv_meta.specs.hv_book.specs.hv_history.specs.Lasting.{TableLater}
+use Rattle.hv_meta.specs.hv_book.specs.hv_history.proofs.LastingLaws.{goes-on-all}
+use Rattle.hv_meta.specs.hv_book.specs.declared.notes.TableNote.{TableNote}
+use Rattle.hv_meta.specs.hv_book.specs.Briefs.{brief_table}
+use Rattle.hv_meta.specs.hv_book.specs.Past.{table_live}
 use Rattle.hv_meta.specs.Catalogs.{info_if, info_in, live_infos}
 use Rattle.hv_earlier.specs.Places.{live_so}
 use Rattle.hv_earlier.proofs.PlaceLaws.{go-on}

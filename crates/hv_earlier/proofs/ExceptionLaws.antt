@@ -5,17 +5,17 @@ use Rattle.std.specs.Option.{option_map}
 use Rattle.std.specs.List.{slice_get, list_any, flat_map, AllByRecursion}
 use Rattle.std.proofs.lemmas.Bool.{lt-ltb, le-leb, lt-leb, leb-false, ne_eqb}
 use Rattle.std.proofs.lemmas.List.Concat.{flat_map-cons}
-use Rattle.hv_history.specs.declared.entry.Entry.{Entry}
-use Rattle.hv_history.specs.State.{numbered, state_of}
-use Rattle.hv_book.specs.declared.notes.TransactionNote.{TransactionNote}
+use Rattle.hv_meta.specs.hv_book.specs.hv_history.specs.declared.entry.Entry.{Entry}
+use Rattle.hv_meta.specs.hv_book.specs.hv_history.specs.State.{numbered, state_of}
+use Rattle.hv_meta.specs.hv_book.specs.declared.notes.TransactionNote.{TransactionNote}
 use Rattle.hv_ids.specs.declared.notes.IdNote.{IdNote}
 use Rattle.hv_ids.specs.declared.notes.PlacedId.{PlacedId}
 use Rattle.hv_ids.specs.Ids.{table_of, is_in}
-use Rattle.hv_book.specs.declared.past.ForgotNote.{ForgotNote}
-use Rattle.hv_book.specs.Briefs.{brief, end_of}
-use Rattle.hv_book.specs.Past.{Past, IsPast, IsSettled, PlacesRise, owners_in, forgotten_in, total, total_from, only_if, weight_in, ended_weight, forgot_then, forgot_id}
-use Rattle.hv_book.proofs.IdLaws.{total-append}
-use Rattle.hv_book.proofs.TextLaws.{numbered-map}
+use Rattle.hv_meta.specs.hv_book.specs.declared.past.ForgotNote.{ForgotNote}
+use Rattle.hv_meta.specs.hv_book.specs.Briefs.{brief, end_of}
+use Rattle.hv_meta.specs.hv_book.specs.Past.{Past, IsPast, IsSettled, PlacesRise, owners_in, forgotten_in, total, total_from, only_if, weight_in, ended_weight, forgot_then, forgot_id}
+use Rattle.hv_meta.specs.hv_book.proofs.IdLaws.{total-append}
+use Rattle.hv_meta.specs.hv_book.proofs.TextLaws.{numbered-map}
 use Rattle.hv_wids.specs.declared.list.Exception.{Exception}
 use Rattle.hv_earlier.specs.declared.fates.Fate.{Fate}
 use Rattle.hv_earlier.specs.declared.fates.Fate.TheVariants as fate

@@ -6,11 +6,12 @@ use Rattle.std.specs.Cmp.Lexicographic.{pointwise}
 use Rattle.hv_ast.specs.declared.statement.Stmt.{Stmt}
 use Rattle.hv_logic.specs.declared.catalog.Shape.{Shape}
 use Rattle.hv_logic.specs.declared.catalog.TableInfo.{TableInfo}
-use Rattle.hv_history.specs.declared.entry.Entry.{Entry}
-use Rattle.hv_history.specs.declared.state.Table.{Table}
-use Rattle.hv_history.specs.State.{numbered, state_of, created_shape}
-use Rattle.hv_history.specs.Lasting.{TableLater}
-use Rattle.hv_book.specs.Past.{table_live}
+use Rattle.hv_meta.specs.hv_book.specs.hv_history.specs.declared.entry.Entry.{Entry}
+use Rattle.hv_meta.specs.hv_book.specs.hv_history.specs.declared.state.Table.{Table}
+use Rattle.hv_meta.specs.hv_book.specs.hv_history.specs.State.{numbered, state_of, created_shape}
+use Rattle.hv_meta.specs.hv_book.specs.hv_history.specs.Lasting.{TableLater}
+use Rattle.hv_meta.specs.hv_book.specs.Past.{table_live}
+use Rattle.hv_meta.specs.hv_book.specs.Names.{name_in}
 use Rattle.hv_meta.specs.Catalogs.{info_if, info_in}
 use Rattle.hv_earlier.specs.Lists.{info_of_name}
 use Rattle.hv_earlier.specs.Places.{live_so}
@@ -82,3 +83,26 @@ module _ (name : List ℕ) where
       by (Some t) is lives =
           ap (λ b. is_some (info_of_name name (info_if b t.info))) lives ∙ is-named t.info
           ∙ ap (λ (shape : Shape). pointwise nat_eq shape.name name) (shape-as t (numbered (state_of entries).tables n) tree (table-later entries position n t is) told)
+
+-- ---- the name of a table, live or dropped
+
+name-later : (t : Table) (now : Option Table) (tree : Option Stmt) → IsSomeAnd now (TableLater t)
+    → ((u : Table) → now ≡ Some u → u.info.shape ≡ created_shape tree) → (created_shape tree).name ≡ t.info.shape.name
+name-later t None tree later told = absurd later
+name-later t (Some u) tree later told =
+    ap (λ (shape : Shape). shape.name) (sym (told u refl)) ∙ ap (λ (info : TableInfo). info.shape.name) later.info
+
+pub name-there : (entries : List Entry) (position n : ℕ) (live : Bool) (tree : Option Stmt)
+    → Some live ≡ option_map table_live (numbered (state_of (take position entries)).tables n)
+    → ((u : Table) → numbered (state_of entries).tables n ≡ Some u → u.info.shape ≡ created_shape tree)
+    → (created_shape tree).name ≡ name_in (numbered (state_of (take position entries)).tables n)
+name-there entries position n live tree there told = by (numbered (state_of (take position entries)).tables n) refl there
+  where
+    by : (o : Option Table) → numbered (state_of (take position entries)).tables n ≡ o → Some live ≡ option_map table_live o
+        → (created_shape tree).name ≡ name_in o
+    by None is there = cc
+    by (Some t) is there = name-later t (numbered (state_of entries).tables n) tree (table-later entries position n t is) told
+
+pub name-missing : (o : Option Table) → None ≡ option_map table_live o → [] ≡ name_in o
+name-missing None none = refl
+name-missing (Some t) none = cc

@@ -5,22 +5,22 @@ use Rattle.std.specs.Option.{option_map}
 use Rattle.std.specs.List.{slice_get, AllByRecursion}
 use Rattle.std.proofs.lemmas.Bool.{lt-ltb, le-ltb, leb-true, leb-false}
 use Rattle.std.proofs.lemmas.List.{map-append, length-map, length-take, length-drop, append-nil, append_assoc}
-use Rattle.hv_history.specs.declared.entry.Entry.{Entry}
-use Rattle.hv_history.specs.declared.entry.Entry.TheVariants as entry
-use Rattle.hv_history.specs.declared.state.Transaction.{Transaction}
-use Rattle.hv_history.specs.declared.state.Table.{Table}
-use Rattle.hv_history.specs.declared.state.Ending.{Ending}
-use Rattle.hv_history.specs.declared.state.Ending.TheVariants.{Committed, Aborted, Made, Dropped}
-use Rattle.hv_history.specs.State.{State, numbered, while_open, unless_ended, started, given_id, committed, ended, opened, acted, after, nothing_yet, state_of}
-use Rattle.hv_history.specs.Lasting.{TableLater}
-use Rattle.hv_history.proofs.LastingLaws.{goes-on-all}
-use Rattle.hv_book.specs.declared.notes.TableNote.{TableNote}
-use Rattle.hv_book.specs.Briefs.{brief, brief_table, end_of}
-use Rattle.hv_book.specs.Past.{owners_in}
-use Rattle.hv_book.proofs.NoteLaws.{map-same}
-use Rattle.hv_book.proofs.TextLaws.{get-front, numbered-map}
-use Rattle.hv_book.proofs.CommitLaws.{IsTold, EndIsTold}
-use Rattle.hv_book.proofs.BookLaws.{follows}
+use Rattle.hv_meta.specs.hv_book.specs.hv_history.specs.declared.entry.Entry.{Entry}
+use Rattle.hv_meta.specs.hv_book.specs.hv_history.specs.declared.entry.Entry.TheVariants as entry
+use Rattle.hv_meta.specs.hv_book.specs.hv_history.specs.declared.state.Transaction.{Transaction}
+use Rattle.hv_meta.specs.hv_book.specs.hv_history.specs.declared.state.Table.{Table}
+use Rattle.hv_meta.specs.hv_book.specs.hv_history.specs.declared.state.Ending.{Ending}
+use Rattle.hv_meta.specs.hv_book.specs.hv_history.specs.declared.state.Ending.TheVariants.{Committed, Aborted, Made, Dropped}
+use Rattle.hv_meta.specs.hv_book.specs.hv_history.specs.State.{State, numbered, while_open, unless_ended, started, given_id, committed, ended, opened, acted, after, nothing_yet, state_of}
+use Rattle.hv_meta.specs.hv_book.specs.hv_history.specs.Lasting.{TableLater}
+use Rattle.hv_meta.specs.hv_book.specs.hv_history.proofs.LastingLaws.{goes-on-all}
+use Rattle.hv_meta.specs.hv_book.specs.declared.notes.TableNote.{TableNote}
+use Rattle.hv_meta.specs.hv_book.specs.Briefs.{brief, brief_table, end_of}
+use Rattle.hv_meta.specs.hv_book.specs.Past.{owners_in}
+use Rattle.hv_meta.specs.hv_book.proofs.NoteLaws.{map-same}
+use Rattle.hv_meta.specs.hv_book.proofs.TextLaws.{get-front, numbered-map}
+use Rattle.hv_meta.specs.hv_book.proofs.CommitLaws.{IsTold, EndIsTold}
+use Rattle.hv_meta.specs.hv_book.proofs.BookLaws.{follows}
 use Rattle.hv_earlier.specs.declared.fates.Fate.{Fate}
 use Rattle.hv_earlier.specs.declared.fates.Fate.TheVariants as fate
 use Rattle.hv_earlier.specs.Fates.{fate_by, fate_of}

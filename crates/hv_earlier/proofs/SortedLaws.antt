@@ -6,8 +6,8 @@ use Rattle.std.specs.List.Sorted.{IsNonDecreasingBy, IsPermutation}
 use Rattle.std.proofs.lemmas.List.Sums.{sum_by-cons}
 use Rattle.std.proofs.lemmas.List.Sorted.{sum_by-IsPermutation}
 use Rattle.std.proofs.lemmas.Bool.{eq-eqb, le-ltb, ltb-false}
-use Rattle.hv_book.specs.Past.{total, only_if}
-use Rattle.hv_book.proofs.NoteLaws.{differ}
+use Rattle.hv_meta.specs.hv_book.specs.Past.{total, only_if}
+use Rattle.hv_meta.specs.hv_book.proofs.NoteLaws.{differ}
 use Rattle.hv_wids.specs.declared.list.Exception.{Exception}
 use Rattle.hv_wids.specs.WriteIds.{ids_of}
 use Rattle.hv_earlier.specs.Places.{write_of}

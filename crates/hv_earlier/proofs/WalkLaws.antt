@@ -11,12 +11,12 @@ use Rattle.hv_ids.specs.declared.notes.PlacedId.{PlacedId}
 use Rattle.hv_ids.specs.Ids.{table_of}
 use Rattle.hv_links.specs.Links.{last_of, last_before, before_of}
 use Rattle.hv_links.proofs.LinkLaws.{none-behind, last-is, last-most}
-use Rattle.hv_history.specs.declared.entry.Entry.{Entry}
-use Rattle.hv_history.specs.State.{numbered, state_of}
-use Rattle.hv_book.specs.Past.{Past, IsPast, IsBehind, PlacesRise, owners_in, total, only_if, given_then}
-use Rattle.hv_book.specs.Commits.{IsRising}
-use Rattle.hv_book.specs.Opened.{before_place}
-use Rattle.hv_book.proofs.IdLaws.{total-append}
+use Rattle.hv_meta.specs.hv_book.specs.hv_history.specs.declared.entry.Entry.{Entry}
+use Rattle.hv_meta.specs.hv_book.specs.hv_history.specs.State.{numbered, state_of}
+use Rattle.hv_meta.specs.hv_book.specs.Past.{Past, IsPast, IsBehind, PlacesRise, owners_in, total, only_if, given_then}
+use Rattle.hv_meta.specs.hv_book.specs.Commits.{IsRising}
+use Rattle.hv_meta.specs.hv_book.specs.Opened.{before_place}
+use Rattle.hv_meta.specs.hv_book.proofs.IdLaws.{total-append}
 use Rattle.hv_earlier.specs.Places.{given_from}
 
 pub total-none : {A : Type 0} (f : A → ℕ) (xs : List A) → AllByRecursion (λ (x : A). f x ≡ 0) xs → total f xs ≡ 0

@@ -1,8 +1,8 @@
 -- How a transaction stands. Source: Hive Transactions (open, committed, aborted).
 use Rattle.std.specs.Prelude.{Option, Some, None}
-use Rattle.hv_history.specs.declared.state.Transaction.{Transaction}
-use Rattle.hv_history.specs.declared.state.Ending.{Ending}
-use Rattle.hv_history.specs.declared.state.Ending.TheVariants as ending
+use Rattle.hv_meta.specs.hv_book.specs.hv_history.specs.declared.state.Transaction.{Transaction}
+use Rattle.hv_meta.specs.hv_book.specs.hv_history.specs.declared.state.Ending.{Ending}
+use Rattle.hv_meta.specs.hv_book.specs.hv_history.specs.declared.state.Ending.TheVariants as ending
 use Rattle.hv_earlier.specs.declared.fates.Fate.{Fate}
 use Rattle.hv_earlier.specs.declared.fates.Fate.TheVariants as fate
 

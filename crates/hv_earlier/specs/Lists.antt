@@ -6,9 +6,9 @@ use Rattle.std.specs.List.{list_any}
 use Rattle.hv_wids.specs.declared.list.Exception.{Exception}
 use Rattle.hv_wids.specs.WriteIds.{WriteIds}
 use Rattle.hv_logic.specs.declared.catalog.TableInfo.{TableInfo}
-use Rattle.hv_history.specs.declared.entry.Entry.{Entry}
-use Rattle.hv_history.specs.State.{State, state_of, numbered}
-use Rattle.hv_book.specs.Past.{owners_in, forgotten_in}
+use Rattle.hv_meta.specs.hv_book.specs.hv_history.specs.declared.entry.Entry.{Entry}
+use Rattle.hv_meta.specs.hv_book.specs.hv_history.specs.State.{State, state_of, numbered}
+use Rattle.hv_meta.specs.hv_book.specs.Past.{owners_in, forgotten_in}
 use Rattle.hv_meta.specs.Catalogs.{live_infos}
 use Rattle.hv_earlier.specs.declared.fates.Fate.{Fate}
 use Rattle.hv_earlier.specs.declared.fates.Fate.TheVariants as fate

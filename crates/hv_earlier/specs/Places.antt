@@ -1,14 +1,14 @@
 -- What the notes beside a book say of an earlier place of it.
 use Rattle.std.specs.Prelude.{◌≡◌, ℕ, ◌==◌, ◌&&◌, nat_lt, nat_le, Bool, true, false, Option, Some, None, List, [], ◌∷◌, length, take}
 use Rattle.std.specs.List.{list_any}
-use Rattle.hv_history.specs.declared.entry.Entry.{Entry}
-use Rattle.hv_history.specs.State.{state_of, numbered}
-use Rattle.hv_book.specs.declared.notes.End.{End}
-use Rattle.hv_book.specs.declared.notes.TransactionNote.{TransactionNote}
+use Rattle.hv_meta.specs.hv_book.specs.hv_history.specs.declared.entry.Entry.{Entry}
+use Rattle.hv_meta.specs.hv_book.specs.hv_history.specs.State.{state_of, numbered}
+use Rattle.hv_meta.specs.hv_book.specs.declared.notes.End.{End}
+use Rattle.hv_meta.specs.hv_book.specs.declared.notes.TransactionNote.{TransactionNote}
 use Rattle.hv_ids.specs.declared.notes.IdNote.{IdNote}
 use Rattle.hv_ids.specs.declared.notes.PlacedId.{PlacedId}
-use Rattle.hv_book.specs.declared.past.ForgotNote.{ForgotNote}
-use Rattle.hv_book.specs.Past.{owners_in, total, only_if, forgot_then}
+use Rattle.hv_meta.specs.hv_book.specs.declared.past.ForgotNote.{ForgotNote}
+use Rattle.hv_meta.specs.hv_book.specs.Past.{owners_in, total, only_if, forgot_then}
 use Rattle.hv_wids.specs.declared.list.Exception.{Exception}
 use Rattle.hv_earlier.specs.declared.fates.Fate.{Fate}
 use Rattle.hv_earlier.specs.declared.fates.Fate.TheVariants as fate

@@ -1,17 +1,18 @@
 ghost use Rattle.std.specs.Prelude.{◌≡◌, ◌++◌, Some, is_some, IfOk, OnOk, take};
 ghost use Rattle.std.specs.Option.{option_copied, option_map, option_to_list};
-ghost use Rattle.hv_history.specs.State.{state_of, numbered, created_shape};
+ghost use Rattle.hv_meta.specs.hv_book.specs.hv_history.specs.State.{state_of, numbered, created_shape};
 ghost use Rattle.hv_meta.specs.Catalogs.{info_in};
-ghost use Rattle.hv_book.specs.Past.{table_live};
+ghost use Rattle.hv_meta.specs.hv_book.specs.Past.{table_live};
+ghost use Rattle.hv_meta.specs.hv_book.specs.Names.{name_in};
 ghost use Rattle.hv_earlier.specs.Lists.{catalog_at, info_of_name};
 ghost use Rattle.hv_earlier.specs.Places.{live_so};
 
 use crate::counts::was_live;
 use hv_ast::Stmt;
 use hv_base::{List, NoMemory, TableId, Text};
-use hv_book::{Book, TableNote};
-use hv_history::numbered;
 use hv_logic::{Catalog, TableInfo};
+use hv_meta::hv_book::hv_history::numbered;
+use hv_meta::hv_book::{Book, TableNote};
 use hv_meta::made_shape;
 use std::alloc::Global;
 
@@ -28,7 +29,7 @@ fn made_info(alloc: Global, note: &TableNote, tree: Option<&Stmt>) -> Result<Tab
 }
 
 /// Whether the table of this number was there and live at that place.
-fn is_live_at(book: &Book, position: usize, table: u64) -> bool
+pub fn is_live_at(book: &Book, position: usize, table: u64) -> bool
     ensures live { result ≡ live_so
         (option_map table_live (numbered (state_of (take position book.now.entries)).tables table)) }
 {
@@ -96,6 +97,16 @@ fn made_name(tree: Option<&Stmt>) -> &str
     match tree {
         Some(Stmt::CreateTable(create)) => create.table.as_str(),
         _ => "",
+    }
+}
+
+/// The name of the table of this number, live or dropped, where it was there at that place; else an empty one.
+pub fn name_at(book: &Book, position: usize, table: u64) -> &str
+    ensures { result.now ≡ name_in (numbered (state_of (take position book.now.entries)).tables table) }
+{
+    match was_live(book, position, table) {
+        Some(_) => made_name(book.table_tree(table)),
+        None => "",
     }
 }
 

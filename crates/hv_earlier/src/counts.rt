@@ -1,13 +1,13 @@
 ghost use Rattle.std.specs.Prelude.{◌≡◌, ◌≤◌, length, take};
 ghost use Rattle.std.specs.Option.{option_copied, option_map};
-ghost use Rattle.hv_history.specs.State.{state_of, numbered};
-ghost use Rattle.hv_book.specs.Past.{owners_in, total, live_then, table_live, PlacesRise};
+ghost use Rattle.hv_meta.specs.hv_book.specs.hv_history.specs.State.{state_of, numbered};
+ghost use Rattle.hv_meta.specs.hv_book.specs.Past.{owners_in, total, live_then, table_live, PlacesRise};
 ghost use Rattle.hv_earlier.specs.Places.{given_from, IsSpot};
 
 use crate::exceptions::Spot;
-use hv_book::{Book, SpanNote};
-use hv_history::numbered;
 use hv_ids::PlacedIds;
+use hv_meta::hv_book::hv_history::numbered;
+use hv_meta::hv_book::{Book, SpanNote};
 
 /// How many ids of a table were given from a place on. It walks these ids alone, the last first.
 fn given_since(given: &PlacedIds, position: u64, table: u64) -> u64

@@ -1,14 +1,14 @@
 ghost use Rattle.std.specs.Prelude.{◌≡◌, ℕ, IfOk, OnOk, map};
 ghost use Rattle.std.specs.List.Sorted.{IsNonDecreasingBy};
 ghost use Rattle.hv_wids.specs.declared.list.Exception.{Exception};
-ghost use Rattle.hv_book.specs.Past.{total};
+ghost use Rattle.hv_meta.specs.hv_book.specs.Past.{total};
 ghost use Rattle.hv_earlier.specs.Lists.{list_at};
 ghost use Rattle.hv_earlier.specs.Places.{IsSpot, write_of};
 
 use crate::counts::spot_at;
 use crate::exceptions::{Spot, put_ended, put_ids};
 use hv_base::{NoMemory, TableId, WriteId};
-use hv_book::Book;
+use hv_meta::hv_book::Book;
 use hv_wids::{Exception, WriteIdList};
 use std::alloc::Global;
 

@@ -1,12 +1,12 @@
 ghost use Rattle.std.specs.Prelude.{◌≡◌, ℕ, ◌+◌, ◌<◌, ◌++◌, OnOk};
 ghost use Rattle.std.specs.List.{list_any, flat_map};
-ghost use Rattle.hv_book.specs.Past.{total, PlacesRise};
+ghost use Rattle.hv_meta.specs.hv_book.specs.Past.{total, PlacesRise};
 ghost use Rattle.hv_earlier.specs.Places.{is_forgot, exception_then, exceptions_of, ended_exceptions, weight_from};
 
 use crate::fates::{Fate, fate_in};
 use hv_base::{NoMemory, WriteId};
-use hv_book::{ForgotNote, TransactionNote};
 use hv_ids::{IdNote, PlacedId, PlacedIds};
+use hv_meta::hv_book::{ForgotNote, TransactionNote};
 use hv_wids::Exception;
 
 /// Where a list is asked: the place, the table, how many ids of it were given before that place, and how

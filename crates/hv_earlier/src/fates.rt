@@ -1,9 +1,9 @@
 ghost use Rattle.std.specs.Prelude.{◌≡◌};
-ghost use Rattle.hv_history.specs.State.{numbered};
+ghost use Rattle.hv_meta.specs.hv_book.specs.hv_history.specs.State.{numbered};
 ghost use Rattle.hv_earlier.specs.Places.{fate_then, fate_in};
 
-use hv_book::{End, TransactionNote};
-use hv_history::numbered;
+use hv_meta::hv_book::hv_history::numbered;
+use hv_meta::hv_book::{End, TransactionNote};
 
 /// How a transaction stands.
 #[derive(Clone, Copy)]

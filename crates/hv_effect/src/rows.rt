@@ -111,6 +111,21 @@ fn alone_stored(
     made_of(alloc, columns, exprs, &frame)
 }
 
+/// A row of these columns, each value over no row.
+pub(crate) fn row_over_none(
+    alloc: Global,
+    columns: &[Column],
+    exprs: &[TypedExpr],
+) -> Result<Row, NoMemory>
+    ensures { IfOk result (λ made. made ≡ stored_row columns.now exprs.now []) }
+{
+    let none = Row {
+        values: List::empty(alloc),
+    };
+    let made = made_of(alloc, columns, exprs, &none)?;
+    Ok(made)
+}
+
 /// Of rows of VALUES.
 pub(crate) fn rows_alone(
     alloc: Global,

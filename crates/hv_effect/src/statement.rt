@@ -1,17 +1,17 @@
 ghost use Rattle.std.specs.Prelude.{◌≡◌, IfOk, Ok, map};
-ghost use Rattle.hv_typing.specs.Faults.{Types};
-ghost use Rattle.hv_typing.specs.Analysis.{analysed};
-ghost use Rattle.hv_meaning.specs.Meaning.{info_of, found_in, tables_of, column_name, listed, refused_for, meant, meaning_over, meaning_in};
+ghost use Rattle.hv_meaning.specs.Meaning.{info_of, found_in, tables_of, column_name, listed, refused_for, meant, meaning_in};
 ghost use Rattle.hv_effect.specs.Tables.{found_of};
 
+use crate::asks::asking;
 use crate::changes::{changed_in, merged_in, query_rows};
 use crate::describing::described;
+use crate::explaining::explained;
+use crate::studied::{mean, study};
 use crate::touching::{Touching, untouched};
-use hv_analysis::analyse;
 use hv_ast::Stmt;
 use hv_base::{Duplicate, List, NoMemory, Refusal, Text};
 use hv_logic::{Meaning, Seen, TableInfo, TableRows};
-use hv_typing::{Logic, OutputColumn, TypeFault, TypedQuery};
+use hv_typing::{Logic, OutputColumn, TypedQuery};
 use std::alloc::Global;
 
 /// The descriptions of tables, and their rows.
@@ -56,7 +56,7 @@ fn listed(alloc: Global, query: &TypedQuery, rows: &[TableRows]) -> Result<Touch
     Ok(untouched(alloc, Meaning::Listing(names, List::from_vec(found))))
 }
 
-fn refused_for(alloc: Global, why: Refusal) -> Option<Touching>
+pub(crate) fn refused_for(alloc: Global, why: Refusal) -> Option<Touching>
     ensures { result ≡ refused_for why }
 {
     match why {
@@ -65,7 +65,7 @@ fn refused_for(alloc: Global, why: Refusal) -> Option<Touching>
     }
 }
 
-fn meant(
+pub(crate) fn meant(
     alloc: Global,
     infos: &[TableInfo],
     rows: &[TableRows],
@@ -81,21 +81,8 @@ fn meant(
         Logic::Unmake(table) => Ok(Some(untouched(alloc, Meaning::Unmake(table)))),
         Logic::Nothing => Ok(Some(untouched(alloc, Meaning::Plain))),
         Logic::Describe(columns) => Ok(Some(described(alloc, columns.as_slice())?)),
-    }
-}
-
-fn meaning_over(
-    alloc: Global,
-    tree: &Stmt,
-    infos: &[TableInfo],
-    rows: &[TableRows],
-) -> Result<Option<Touching>, NoMemory>
-    ensures { IfOk result (λ meaning. meaning ≡ meaning_over tree.now infos.now (found_of rows.now)) }
-{
-    match analyse(alloc, infos, tree) {
-        Ok(logic) => meant(alloc, infos, rows, logic),
-        Err(TypeFault::Refused(why)) => Ok(refused_for(alloc, why)),
-        Err(TypeFault::NoMemory) => Err(NoMemory),
+        Logic::Explain(query) => Ok(Some(explained(alloc, &query)?)),
+        Logic::Ask(ask) => Ok(Some(asking(alloc, &ask)?)),
     }
 }
 
@@ -110,5 +97,6 @@ pub fn meaning_in(
     ensures { IfOk result (λ meaning. meaning ≡ meaning_in tree.now tables.items) }
 {
     let Parts { infos, rows } = parts_of(alloc, tables)?;
-    meaning_over(alloc, tree, infos.as_slice(), rows.as_slice())
+    let studied = study(alloc, infos, tree)?;
+    mean(alloc, studied, rows.as_slice())
 }

@@ -15,8 +15,8 @@ use Rattle.hv_jobs.specs.Covered.{base, wide, has_within}
 use Rattle.hv_jobs.specs.Finals.{final_if, final_names, unless_bare, finals_of}
 use Rattle.hv_law_made.specs.Opening.{dirs_for, failing_dirs}
 use Rattle.hv_book.proofs.IdLaws.{all-numbered}
-use Rattle.hv_tallies.specs.Jobs.{asked_at}
-use Rattle.hv_tallies.proofs.AskedLemmas.{IsAskedThere, all-asked}
+use Rattle.hv_queue.specs.hv_tallies.specs.Jobs.{asked_at}
+use Rattle.hv_queue.specs.hv_tallies.proofs.AskedLemmas.{IsAskedThere, all-asked}
 use Rattle.hv_finals.specs.declared.merging.Merge.{Merge}
 use Rattle.hv_finals.specs.Finals.{merge_in, dir_in, dirs_in, one_in, wides_in, finals_in, AreFinals, staged_as, range_dirs, AreFailing}
 use Rattle.hv_finals.proofs.RangeLemmas.{its_merge, merge-there, merge-none}

@@ -14,7 +14,7 @@ use Rattle.hv_book.specs.declared.jobs.JobRange.{JobRange}
 use Rattle.hv_book.specs.Briefs.{brief_job}
 use Rattle.hv_queue.specs.declared.queue.JobPieces.{JobPieces}
 use Rattle.hv_queue.specs.Queue.{pieces_in}
-use Rattle.hv_tallies.proofs.NoteLemmas.{job-some}
+use Rattle.hv_queue.specs.hv_tallies.proofs.NoteLemmas.{job-some}
 use Rattle.hv_finals.specs.declared.ending.JobEnd.{JobEnd}
 use Rattle.hv_finals.specs.declared.ending.JobEnd.TheVariants as end
 use Rattle.hv_finals.specs.Finals.{works_at, entry_of, entries_of_end, end_entries, end_by, is_publication}

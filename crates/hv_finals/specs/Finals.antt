@@ -25,7 +25,7 @@ use Rattle.hv_book.specs.declared.jobs.JobNote.{JobNote}
 use Rattle.hv_book.specs.declared.jobs.JobRange.{JobRange}
 use Rattle.hv_queue.specs.declared.queue.JobPieces.{JobPieces}
 use Rattle.hv_queue.specs.Queue.{pieces_in}
-use Rattle.hv_tallies.specs.Jobs.{asked_at}
+use Rattle.hv_queue.specs.hv_tallies.specs.Jobs.{asked_at}
 use Rattle.hv_finals.specs.declared.merging.Merge.{Merge}
 use Rattle.hv_finals.specs.declared.ending.JobEnd.{JobEnd}
 use Rattle.hv_finals.specs.declared.ending.JobEnd.TheVariants as end

@@ -12,8 +12,8 @@ use hv_base::{Duplicate, JobId, NoMemory, TableId, Text, WriteId};
 use hv_book::{Book, JobRange};
 use hv_dirs::{DirName, print_name};
 use hv_history::JobKind;
+use hv_queue::hv_tallies::{Within, asked_at, found_within};
 use hv_shelf::DirAt;
-use hv_tallies::{Within, asked_at, found_within};
 use std::alloc::Global;
 
 /// The directory of this name in a table's partition.

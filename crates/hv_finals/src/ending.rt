@@ -9,8 +9,8 @@ use hv_base::JobId;
 use hv_book::{Book, JobNote, JobRange};
 use hv_history::numbered;
 use hv_meta::next_txn;
+use hv_queue::hv_tallies::both;
 use hv_queue::{is_empty, is_live, pieces};
-use hv_tallies::both;
 
 /// How an opening ends a job that was at work.
 #[derive(Clone, Copy)]

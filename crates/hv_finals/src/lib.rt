@@ -1,6 +1,8 @@
 //! The directories that a compaction job at work is to make: which they are, whether a store lists them, and which go where it is given up.
 #![tactic(auto)]
 
+pub use hv_law_made;
+
 mod clearing;
 mod dirs;
 mod ending;

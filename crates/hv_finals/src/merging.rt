@@ -6,8 +6,8 @@ ghost use Rattle.hv_finals.specs.Finals.{merge_if, merge_noted, merge_in, works_
 use hv_base::JobId;
 use hv_book::{Book, JobNote};
 use hv_history::{JobKind, numbered};
+use hv_queue::hv_tallies::both;
 use hv_queue::{JobPieces, is_empty, pieces};
-use hv_tallies::both;
 
 /// What a compaction job merges: the write ids from `low` to `high` of its table. `asked` is the place of its Asked, where its partition
 /// stands.

@@ -20,7 +20,9 @@ use Rattle.hv_history.specs.Legal.{Fits, AllFit, Of, is_open, is_started, IsRunn
 use Rattle.hv_book.specs.Briefs.{brief, open_from, open_next, end_of, tree_in}
 use Rattle.hv_meta.specs.States.{state_by, transaction_state}
 use Rattle.hv_meta.proofs.FactLemmas.{and-left, and-right, and-both, false-is}
+use Rattle.hv_book.specs.Said.{said}
 use Rattle.hv_book.proofs.TextLaws.{all-snoc}
+use Rattle.hv_book.proofs.SaidLaws.{names-said}
 use Rattle.hv_fits.specs.Texts.{text_of, HasOneText, TextsRun, holds_at, holds_among, first_among, is_waiting_state, IsReady}
 
 -- ---- a transaction's text stays
@@ -109,8 +111,15 @@ first-tree (s ∷ ss) text e = let same : s.text ≡ text = cc in ap (λ x. tree
 pub one-tree : (t : Transaction) (h : HasOneText t) → opening_tree t ≡ Some h.tree
 one-tree t h = first-tree t.statements h.text h.only ∙ h.runs.read
 
-pub same-tree : (t : Transaction) (h : HasOneText t) (tree : Stmt) → Some tree ≡ opening_tree t → h.tree ≡ tree
-same-tree t h tree e = let both : Some h.tree ≡ Some tree = sym (one-tree t h) ∙ sym e in cc
+-- what is kept of it
+pub kept-tree : (t : Transaction) (h : HasOneText t) → tree_in (Some t) ≡ Some (said h.tree)
+kept-tree t h = ap (option_map said) (one-tree t h)
+
+same-some : (a b : Stmt) → Some a ≡ Some b → a ≡ b
+same-some a b e = cc
+
+pub same-names : (t : Transaction) (h : HasOneText t) (tree : Stmt) → Some tree ≡ tree_in (Some t) → names_in h.tree ≡ names_in tree
+same-names t h tree e = sym (names-said h.tree) ∙ ap names_in (same-some (said h.tree) tree (sym (kept-tree t h) ∙ sym e))
 
 abbrev pub IfThere : Option Transaction → Type 0
 IfThere None = Unit {0}
@@ -137,7 +146,7 @@ holds-in : (o : Option Transaction) (tree other : Stmt) → IfThere o → Some o
 holds-in None tree other h e r c running conflict = cc
 holds-in (Some t) tree other h e true c running conflict =
     let run = running.0 refl in
-    let own : names_in other ≡ locks_of t = ap names_in (sym (same-tree t h other e)) ∙ sym (one-lock t h) in
+    let own : names_in other ≡ locks_of t = sym (same-names t h other e) ∙ sym (one-lock t h) in
     conflict ∙ ap (locks_conflict (names_in tree)) own
     ∙ sym (ap (λ b. b && is_started t && locks_conflict (names_in tree) (locks_of t)) run.unended
     ∙ ap (λ b. true && b && locks_conflict (names_in tree) (locks_of t)) run.started)
@@ -152,7 +161,7 @@ holds-some state n tree other h e r c running conflict =
 
 holds-no : (o : Option Transaction) (tree : Stmt) → IfThere o → None ≡ tree_in o → false ≡ holds_at (names_in tree) o
 holds-no None tree h e = refl
-holds-no (Some t) tree h e = let both : None ≡ Some h.tree = e ∙ one-tree t h in cc
+holds-no (Some t) tree h e = let both : None ≡ Some (said h.tree) = e ∙ kept-tree t h in cc
 
 pub holds-none : (state : State) (n : ℕ) (tree : Stmt) → TextsRun state → None ≡ tree_in (numbered state.transactions n)
     → false ≡ holds_among (names_in tree) state.transactions n
@@ -228,14 +237,14 @@ free-of o p f e is = free-one o f e ∙ ap is_none is
 
 unfit : (o : Option Transaction) (P : Transaction → Type 0) → IfThere o → None ≡ tree_in o → IsTrue false ↔ IsSomeAnd o P
 unfit None P h e = (λ x. cc, λ x. absurd x)
-unfit (Some t) P h e = absurd (let both : None ≡ Some h.tree = e ∙ one-tree t h in cc)
+unfit (Some t) P h e = absurd (let both : None ≡ Some (said h.tree) = e ∙ kept-tree t h in cc)
 
 pub no-text : (state : State) (n : ℕ) (P : Transaction → Type 0) → TextsRun state → None ≡ tree_in (numbered state.transactions n)
     → IsTrue false ↔ Of state n P
 no-text state n P h e = unfit (numbered state.transactions n) P (numbered-all state.transactions n h) e
 
-own-locks : (t : Transaction) (h : HasOneText t) (tree : Stmt) → Some tree ≡ opening_tree t → locks_of t ≡ names_in tree
-own-locks t h tree e = one-lock t h ∙ ap names_in (same-tree t h tree e)
+own-locks : (t : Transaction) (h : HasOneText t) (tree : Stmt) → Some tree ≡ tree_in (Some t) → locks_of t ≡ names_in tree
+own-locks t h tree e = one-lock t h ∙ same-names t h tree e
 
 ready-in : (state : State) (o : Option Transaction) (tree : Stmt) → IfThere o → Some tree ≡ tree_in o → (w f : Bool)
     → (IsTrue w ↔ IsSomeAnd o IsWaiting) → f ≡ is_none (first_holder (names_in tree) 1 state.transactions) → (IsTrue (w && f)) ↔ IsSomeAnd o (IsReady state)

@@ -59,9 +59,9 @@ pub record AsksOther (state : State) (txn by : ℕ) : Type 0 where
   pub other : by ≢ txn
   pub asks : Of state by (Asks txn)
 
--- what is handed in with an Opened is the tree by which its text runs, or nothing where it doesn't run
+-- something is handed in with an Opened exactly where its text runs
 abbrev pub IsTreeOf : List ℕ → Option Stmt → Type 0
-IsTreeOf text (Some tree) = Runs text tree
+IsTreeOf text (Some tree) = IsStatement text
 IsTreeOf text None = IsStatement text → ⊥
 
 abbrev pub IsHanded : Entry → Option Stmt → Type 0

@@ -94,7 +94,7 @@ fn is_fitting(book: &Book, limits: &Limits, entry: &Entry, tree: Option<&Stmt>) 
 }
 
 /// Whether an entry fits a book whose own entries fit: if so, all fit with it behind them. With an
-/// Opened comes the tree of its text, or nothing where the text doesn't run.
+/// Opened comes a tree where its text runs, and nothing where it doesn't.
 pub fn fits(book: &Book, limits: &Limits, entry: &Entry, tree: Option<&Stmt>) -> bool
     requires fit { AllFit limits.now nothing_yet book.now.entries }
     requires tree { IsHanded entry.now (option_copied tree) }

@@ -6,10 +6,11 @@ use Rattle.std.proofs.lemmas.Bool.{ltb-false}
 use Rattle.std.proofs.lemmas.List.{take-append-le, take-append-drop}
 use Rattle.std.proofs.lemmas.List.Sums.{fold-append}
 use Rattle.hv_base.specs.declared.ids.TxnId.{TxnId}
-use Rattle.hv_ast.specs.declared.statement.Stmt.{Stmt}
-use Rattle.hv_ast.specs.declared.statement.Stmt.TheVariants as stmt
-use Rattle.hv_logic.specs.declared.meaning.Meaning.{Meaning}
-use Rattle.hv_logic.specs.declared.meaning.Meaning.TheVariants.{Plain}
+use Rattle.hv_meaning.specs.hv_typing.specs.hv_logic.specs.hv_ast.specs.declared.statement.Stmt.{Stmt}
+use Rattle.hv_meaning.specs.hv_typing.specs.hv_logic.specs.hv_ast.specs.declared.statement.Stmt.TheVariants as stmt
+use Rattle.hv_meaning.specs.hv_typing.specs.hv_logic.specs.declared.meaning.Meaning.{Meaning}
+use Rattle.hv_meaning.specs.hv_typing.specs.hv_logic.specs.declared.meaning.Meaning.TheVariants.{Plain}
+use Rattle.hv_meaning.specs.hv_typing.specs.hv_logic.specs.declared.meaning.Meaning.TheVariants as comes
 use Rattle.hv_meaning.proofs.Requests.{aborts-mean}
 use Rattle.hv_history.specs.declared.entry.Entry.{Entry}
 use Rattle.hv_history.specs.declared.entry.Entry.TheVariants as entry
@@ -19,6 +20,7 @@ use Rattle.hv_history.specs.declared.state.Ending.TheVariants.{Aborted}
 use Rattle.hv_history.specs.declared.state.Transaction.{Transaction}
 use Rattle.hv_history.specs.Asking.{numbers_in, opened_before, is_there_open, is_asked, first_asked}
 use Rattle.hv_history.specs.Standing.{is_open}
+use Rattle.hv_history.specs.JobsTrue.{Ask, ask_of, stands_for}
 use Rattle.hv_history.specs.Legal.{HasAsked}
 use Rattle.hv_history.specs.Shown.{filled}
 use Rattle.hv_history.specs.State.{State, nothing_yet, numbered, seen_tables, means, opening_tree, changed, changed_at, while_open, unless_ended, ended, acted, after, state_of}
@@ -224,7 +226,8 @@ module _ (before now : State) (goes : GoesOn before now) (own opened : ℕ) (wit
   none-left-stays ns h = none-left now.transactions own opened ns (all-passed-stay ns (all-passed before.transactions own opened ns h))
 
 pub has-asked-stays : (before now : State) → GoesOn before now → (own : ℕ) (t : Transaction) (m : Option Meaning)
-    → opened_before t.snapshot ≤ length before.transactions → HasAsked before own t m → HasAsked now own t m
-has-asked-stays before now goes own t (Some Plain) within asked =
+    → ((ask : Ask) → stands_for before t ask ≡ true → stands_for now t ask ≡ true) → opened_before t.snapshot ≤ length before.transactions → HasAsked before own t m → HasAsked now own t m
+has-asked-stays before now goes own t (Some Plain) jobs within asked =
     none-left-stays before now goes own (opened_before t.snapshot) within (numbers_in (opening_tree t)) asked
-has-asked-stays before now goes own t m within asked = tt
+has-asked-stays before now goes own t (Some (comes.Ask table partition kind)) jobs within asked = jobs (ask_of table partition kind) asked
+has-asked-stays before now goes own t m jobs within asked = tt

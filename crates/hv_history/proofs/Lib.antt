@@ -5,3 +5,4 @@ pub mod AnswerLemmas
 pub mod RefusalNames
 pub mod LastingLaws
 pub mod AskingLaws
+pub mod JobsStay

@@ -1,10 +1,10 @@
 -- What fills a meaning is a listing, in place of nothing: every other meaning stays as it is over the tables.
 use Rattle.std.proofs.Common.{◌≡◌, ◌⊎◌, true, false, inl, inr, ℕ, Option, Some, None, List, refl, sym, ◌∙◌, subst}
 use Rattle.hv_value.specs.declared.row.Row.{Row}
-use Rattle.hv_logic.specs.declared.catalog.TableInfo.{TableInfo}
-use Rattle.hv_logic.specs.declared.effect.Effect.{Effect}
-use Rattle.hv_logic.specs.declared.meaning.Meaning.{Meaning}
-use Rattle.hv_logic.specs.declared.meaning.Meaning.TheVariants.{Refused, Listing, Change, Make, Unmake, Plain, Twice, RowLimit, PartitionLimit}
+use Rattle.hv_meaning.specs.hv_typing.specs.hv_logic.specs.declared.catalog.TableInfo.{TableInfo}
+use Rattle.hv_meaning.specs.hv_typing.specs.hv_logic.specs.declared.effect.Effect.{Effect}
+use Rattle.hv_meaning.specs.hv_typing.specs.hv_logic.specs.declared.meaning.Meaning.{Meaning}
+use Rattle.hv_meaning.specs.hv_typing.specs.hv_logic.specs.declared.meaning.Meaning.TheVariants.{Refused, Listing, Change, Make, Unmake, Ask, Plain, Twice, RowLimit, PartitionLimit}
 use Rattle.hv_history.specs.declared.shown.Shown.{Shown}
 use Rattle.hv_history.specs.Shown.{filled, is_plain}
 
@@ -19,6 +19,7 @@ filled-or (Some shown) (Some (Listing names rows)) = inl refl
 filled-or (Some shown) (Some (Change info effect)) = inl refl
 filled-or (Some shown) (Some (Make shape)) = inl refl
 filled-or (Some shown) (Some (Unmake table)) = inl refl
+filled-or (Some shown) (Some (Ask table region kind)) = inl refl
 filled-or (Some shown) (Some Plain) = inr (shown, refl)
 filled-or (Some shown) (Some (Twice region row)) = inl refl
 filled-or (Some shown) (Some RowLimit) = inl refl
@@ -49,6 +50,7 @@ filled-plain shown (Listing names rows) is = cc
 filled-plain shown (Change info effect) is = cc
 filled-plain shown (Make shape) is = cc
 filled-plain shown (Unmake table) is = cc
+filled-plain shown (Ask table region kind) is = cc
 filled-plain shown Plain is = refl
 filled-plain shown (Twice region row) is = cc
 filled-plain shown RowLimit is = cc
@@ -60,6 +62,7 @@ filled-other shown (Listing names rows) is = refl
 filled-other shown (Change info effect) is = refl
 filled-other shown (Make shape) is = refl
 filled-other shown (Unmake table) is = refl
+filled-other shown (Ask table region kind) is = refl
 filled-other shown Plain is = cc
 filled-other shown (Twice region row) is = refl
 filled-other shown RowLimit is = refl

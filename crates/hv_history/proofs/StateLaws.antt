@@ -5,10 +5,10 @@ use Rattle.std.specs.declared.cmp.Ordering.TheVariants.{Less}
 use Rattle.std.specs.Ordering.{is_eq}
 use Rattle.std.specs.Prelude.{IsFalse}
 use Rattle.std.specs.Option.{option_map}
-use Rattle.hv_logic.specs.declared.effect.Effect.{Effect}
-use Rattle.hv_logic.specs.declared.effect.Found.{Found}
-use Rattle.hv_logic.specs.Rows.{found_cmp}
-use Rattle.hv_logic.specs.declared.catalog.Shape.{Shape}
+use Rattle.hv_meaning.specs.hv_typing.specs.hv_logic.specs.declared.effect.Effect.{Effect}
+use Rattle.hv_meaning.specs.hv_typing.specs.hv_logic.specs.declared.effect.Found.{Found}
+use Rattle.hv_meaning.specs.hv_typing.specs.hv_logic.specs.Rows.{found_cmp}
+use Rattle.hv_meaning.specs.hv_typing.specs.hv_logic.specs.declared.catalog.Shape.{Shape}
 use Rattle.hv_meaning.specs.hv_route.specs.Routes.{numbered_rows}
 use Rattle.hv_meaning.specs.hv_route.specs.Rising.{IsNumbered}
 use Rattle.hv_meaning.specs.hv_route.proofs.NumberedLemmas.{rows-are-numbered}

@@ -1,7 +1,7 @@
 -- What contracts see of a book.
 use Rattle.std.specs.Prelude.{ℕ, Option, None, List, slice_get, option_and_then}
-use Rattle.hv_ast.specs.declared.statement.Stmt.{Stmt}
-use Rattle.hv_grammar.specs.Texts.{tree_of}
+use Rattle.hv_meaning.specs.hv_typing.specs.hv_logic.specs.hv_ast.specs.declared.statement.Stmt.{Stmt}
+use Rattle.hv_built.specs.hv_grammar.specs.Texts.{tree_of}
 use Rattle.hv_history.specs.declared.entry.Entry.{Entry}
 use Rattle.hv_history.specs.declared.entry.Entry.TheVariants as entry
 

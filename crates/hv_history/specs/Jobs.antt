@@ -13,6 +13,7 @@ use Rattle.hv_history.specs.declared.state.Ending.TheVariants.{Committed}
 use Rattle.hv_history.specs.declared.state.Transaction.{Transaction}
 use Rattle.hv_history.specs.State.{State, Job, numbered}
 use Rattle.hv_history.specs.Standing.{is_open}
+pub use Rattle.hv_history.specs.Standing.{first_open, if_below}
 use Rattle.hv_history.specs.Load.{is_working, one_if}
 use Rattle.hv_history.specs.Thresholds.{delta_threshold, percent_threshold, is_behind_place}
 
@@ -217,16 +218,6 @@ is_empty_of kind.Minor pieces = nat_le pieces.ins 1 && nat_le pieces.del 1
 is_empty_of kind.Major pieces = nat_lt (pieces.ins + pieces.del + one_if pieces.base) 2
 
 -- ---- who still needs what a published job covers: the open transactions below its mark
-
--- the number of the first one that is open, where the first one's is given
-abbrev pub first_open : ℕ → List Transaction → Option ℕ
-first_open number [] = None
-first_open number (transaction ∷ transactions) =
-    if is_open transaction then Some number else first_open (number + 1) transactions
-
-abbrev pub if_below : ℕ → Option ℕ → Option ℕ
-if_below mark None = None
-if_below mark (Some txn) = if nat_lt txn mark then Some txn else None
 
 -- the lowest open transaction below a mark
 abbrev pub holder : State → ℕ → Option ℕ

@@ -4,10 +4,10 @@ use Rattle.std.specs.Prelude.{if◌then◌else◌, ◌≡◌, ◌⊎◌, ◌↔�
 use Rattle.std.specs.Cmp.Lexicographic.{pointwise}
 use Rattle.std.specs.List.{list_any}
 use Rattle.hv_base.specs.declared.ids.Limits.{Limits}
-use Rattle.hv_ast.specs.declared.table.CompactionKind.{CompactionKind}
-use Rattle.hv_ast.specs.declared.table.CompactionKind.TheVariants as compaction
-use Rattle.hv_ast.specs.declared.statement.Stmt.{Stmt}
-use Rattle.hv_ast.specs.declared.statement.Stmt.TheVariants as stmt
+use Rattle.hv_meaning.specs.hv_typing.specs.hv_logic.specs.hv_ast.specs.declared.table.CompactionKind.{CompactionKind}
+use Rattle.hv_meaning.specs.hv_typing.specs.hv_logic.specs.hv_ast.specs.declared.table.CompactionKind.TheVariants as compaction
+use Rattle.hv_meaning.specs.hv_typing.specs.hv_logic.specs.hv_ast.specs.declared.statement.Stmt.{Stmt}
+use Rattle.hv_meaning.specs.hv_typing.specs.hv_logic.specs.hv_ast.specs.declared.statement.Stmt.TheVariants as stmt
 use Rattle.hv_history.specs.declared.entry.JobKind.{JobKind}
 use Rattle.hv_history.specs.declared.entry.JobKind.TheVariants as kind
 use Rattle.hv_history.specs.declared.entry.JobCause.{JobCause}

@@ -1,25 +1,41 @@
--- What is true of a statement that asks for a compaction, and of what it adds, as it will be said among all entries once such a
--- statement has a meaning: `asks` gives what a transaction's statement asks for.
+-- What is true of a statement that asks for a compaction, and of its Asked; specs/Legal has it among all entries.
 -- Source: Hive Language Manual, DDL (ALTER TABLE COMPACT); that it leaves a partition alone where a job is busy is this project's
 -- profile.
-use Rattle.std.specs.Prelude.{◌≡◌, ◌⊎◌, ℕ, ◌==◌, ◌&&◌, ◌||◌, Bool, is_none, IsTrue, IsFalse, Option, Some, None, List}
+use Rattle.std.specs.Prelude.{◌≡◌, ◌⊎◌, ℕ, ◌==◌, ◌&&◌, ◌||◌, Bool, is_none, IsFalse, Option, Some, None, List}
 use Rattle.std.specs.List.{list_any}
-use Rattle.hv_history.specs.declared.entry.Entry.{Entry}
-use Rattle.hv_history.specs.declared.entry.Entry.TheVariants as entry
-use Rattle.hv_history.specs.declared.entry.Cause.TheVariants as cause
+use Rattle.hv_meaning.specs.hv_typing.specs.hv_logic.specs.hv_ast.specs.declared.table.CompactionKind.{CompactionKind}
+use Rattle.hv_meaning.specs.hv_typing.specs.hv_logic.specs.hv_ast.specs.declared.table.CompactionKind.TheVariants as compaction
+use Rattle.hv_base.specs.declared.ids.TableId.{TableId}
+use Rattle.hv_meaning.specs.hv_typing.specs.hv_logic.specs.declared.meaning.Meaning.{Meaning}
+use Rattle.hv_meaning.specs.hv_typing.specs.hv_logic.specs.declared.meaning.Meaning.TheVariants as means
 use Rattle.hv_history.specs.declared.entry.JobKind.{JobKind}
+use Rattle.hv_history.specs.declared.entry.JobKind.TheVariants as kind
 use Rattle.hv_history.specs.declared.state.Transaction.{Transaction}
-use Rattle.hv_history.specs.State.{State, Job}
-use Rattle.hv_history.specs.Standing.{is_started}
+use Rattle.hv_history.specs.State.{State, Job, meaning}
 use Rattle.hv_history.specs.Load.{Of, place_of_snapshot}
 use Rattle.hv_history.specs.Thresholds.{is_behind_place}
-use Rattle.hv_history.specs.Jobs.{is_kind, jobs_in, has_busy, mark_by}
+use Rattle.hv_history.specs.Jobs.{is_kind, jobs_in, mark_by}
 
 -- a partition of a table, and the kind of the compaction
 pub record Ask : Type 0 where
   pub table : ℕ
   pub partition : List ℕ
   pub kind : JobKind
+
+abbrev pub kind_of : CompactionKind → JobKind
+kind_of compaction.Minor = kind.Minor
+kind_of compaction.Major = kind.Major
+
+abbrev pub ask_of : TableId → List ℕ → CompactionKind → Ask
+ask_of table partition kind = record { table = table.0; partition = partition; kind = kind_of kind }
+
+-- what a statement of this meaning asks for, and what a transaction does
+abbrev pub asks_by : Option Meaning → Option Ask
+asks_by (Some (means.Ask table partition kind)) = Some (ask_of table partition kind)
+asks_by _ = None
+
+abbrev pub asks_of : Transaction → Option Ask
+asks_of transaction = asks_by (meaning transaction)
 
 -- ---- what stands of it in a book
 
@@ -40,27 +56,16 @@ has_asked state txn ask = list_any (is_asked_by txn ask.kind) (jobs_in state ask
 
 -- ---- what is true
 
--- It commits where it has asked, or where a job of the partition was busy behind its snapshot.
-abbrev pub CommitsAsk : State → ℕ → Transaction → Option Ask → Type 0
-CommitsAsk state txn transaction None = Unit {0}
-CommitsAsk state txn transaction (Some ask) =
-    IsTrue (has_asked state txn ask) ⊎ IsTrue (was_busy state (place_of_snapshot transaction.snapshot) ask)
+-- A statement asks where no job of the partition was busy behind its snapshot, and commits where one was. Its own one is: it was asked for
+-- behind it. So whether it asks or commits next is a function of the book.
+abbrev pub stands_for : State → Transaction → Ask → Bool
+stands_for state transaction ask = was_busy state (place_of_snapshot transaction.snapshot) ask
 
--- There is no room for it where it hasn't started, or where it would ask now.
-abbrev pub LacksForAsk : State → Transaction → Option Ask → Type 0
-LacksForAsk state transaction None = Unit {0}
-LacksForAsk state transaction (Some ask) = IsFalse (is_started transaction) ⊎ IsFalse (has_busy state ask.table ask.partition)
+-- it asks for this now
+pub record AsksNow (state : State) (ask : Ask) (transaction : Transaction) : Type 0 where
+  pub asks : asks_of transaction ≡ Some ask
+  pub now : IsFalse (stands_for state transaction ask)
 
 -- The initiator asks for what is due at that time, which no entry says; a transaction for what its statement asks for.
-abbrev pub IsAskedFor : (Transaction → Option Ask) → State → Ask → ℕ → Type 0
-IsAskedFor asks state ask by = (by ≡ 0) ⊎ Of state by (λ (transaction : Transaction). asks transaction ≡ Some ask)
-
--- All other entries of jobs are true where they fit.
-abbrev pub JobIsTrue : (Transaction → Option Ask) → State → Entry → Type 0
-JobIsTrue asks state (entry.Asked job table partition kind by) =
-    IsAskedFor asks state (record { table = table.0; partition = partition; kind = kind }) by
-JobIsTrue asks state (entry.Commit txn wrote) =
-    Of state txn.0 (λ (transaction : Transaction). CommitsAsk state txn.0 transaction (asks transaction))
-JobIsTrue asks state (entry.Abort txn cause.Full) =
-    Of state txn.0 (λ (transaction : Transaction). LacksForAsk state transaction (asks transaction))
-JobIsTrue asks state _ = Unit {0}
+abbrev pub IsAskedFor : State → Ask → ℕ → Type 0
+IsAskedFor state ask by = (by ≡ 0) ⊎ Of state by (AsksNow state ask)

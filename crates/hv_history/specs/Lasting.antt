@@ -1,6 +1,6 @@
 -- What is true of every longer book: what a transaction has it keeps, and what a table has.
 use Rattle.std.specs.Prelude.{◌≡◌, ℕ, Option, Some, None, IsSomeAnd, List, [], ◌∷◌, ◌++◌}
-use Rattle.hv_logic.specs.declared.meaning.Meaning.{Meaning}
+use Rattle.hv_meaning.specs.hv_typing.specs.hv_logic.specs.declared.meaning.Meaning.{Meaning}
 use Rattle.hv_history.specs.declared.entry.Entry.{Entry}
 use Rattle.hv_history.specs.declared.entry.Entry.TheVariants as entry
 use Rattle.hv_history.specs.declared.state.Table.{Table}

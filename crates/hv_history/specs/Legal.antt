@@ -14,11 +14,11 @@ use Rattle.hv_base.specs.declared.ids.Limits.{Limits}
 use Rattle.hv_base.specs.declared.ids.Touch.{Touch}
 use Rattle.hv_locks.specs.declared.table.Lock.{Lock}
 use Rattle.hv_locks.specs.Locking.{conflict}
-use Rattle.hv_ast.specs.declared.statement.Stmt.{Stmt}
-use Rattle.hv_ast.specs.declared.statement.Stmt.TheVariants as stmt
+use Rattle.hv_meaning.specs.hv_typing.specs.hv_logic.specs.hv_ast.specs.declared.statement.Stmt.{Stmt}
+use Rattle.hv_meaning.specs.hv_typing.specs.hv_logic.specs.hv_ast.specs.declared.statement.Stmt.TheVariants as stmt
 use Rattle.hv_built.specs.Running.{Runs}
-use Rattle.hv_logic.specs.declared.meaning.Meaning.{Meaning}
-use Rattle.hv_logic.specs.declared.meaning.Meaning.TheVariants.{Refused, Listing, Change, Make, Unmake, Plain, Twice, RowLimit, PartitionLimit}
+use Rattle.hv_meaning.specs.hv_typing.specs.hv_logic.specs.declared.meaning.Meaning.{Meaning}
+use Rattle.hv_meaning.specs.hv_typing.specs.hv_logic.specs.declared.meaning.Meaning.TheVariants.{Refused, Listing, Change, Make, Unmake, Ask, Plain, Twice, RowLimit, PartitionLimit}
 use Rattle.hv_meaning.specs.hv_route.specs.Back.{AreFlat}
 use Rattle.hv_meaning.specs.hv_route.specs.Touching.{touches_of}
 use Rattle.hv_history.specs.declared.entry.Entry.{Entry}
@@ -29,6 +29,7 @@ use Rattle.hv_history.specs.Asking.{asked_by}
 pub use Rattle.hv_history.specs.Standing.{is_open, is_started, locks_of_tree, locks_of, is_named}
 use Rattle.hv_history.specs.State.{State, Table, Transaction, Ending, Committed, numbered, meaning, opening_tree, created_shape, given_in, nothing_yet, after}
 pub use Rattle.hv_history.specs.Load.{Of, IsRunning, IsWaiting, place_of_snapshot, profile, is_working, one_if, open_one, working_one, load, HasRoom}
+use Rattle.hv_history.specs.JobsTrue.{ask_of, stands_for, IsAskedFor}
 use Rattle.hv_history.specs.JobsFit.{OfJob, AskedFits, PickedFits, PublishedFits, EmptyFits, FailedFits, CleanedFits, ForgotFits}
 
 -- ---- locks
@@ -248,11 +249,15 @@ abbrev pub TouchesAreMeant : List Touch → Option Meaning → Type 0
 TouchesAreMeant wrote (Some (Listing names rows)) = wrote ≡ []
 TouchesAreMeant wrote (Some (Change info effect)) = wrote ≡ touches_of info effect
 TouchesAreMeant wrote (Some Plain) = wrote ≡ []
+TouchesAreMeant wrote (Some (Ask table partition kind)) = wrote ≡ []
 TouchesAreMeant wrote _ = ⊥
 
--- a statement that comes to nothing has asked for each abort that its text lists
+-- a statement that comes to nothing has asked for each abort that its text lists; of one that asks for a compaction a job stands, its own or
+-- another one that was busy
 abbrev pub HasAsked : State → ℕ → Transaction → Option Meaning → Type 0
 HasAsked state own transaction (Some Plain) = asked_by state own transaction ≡ None
+HasAsked state own transaction (Some (Ask table partition kind)) =
+    IsTrue (stands_for state transaction (ask_of table partition kind))
 HasAsked state own transaction _ = Unit {0}
 
 -- what a commit says of its statement is what it came to
@@ -268,6 +273,12 @@ IsMake _ = ⊥
 abbrev pub NeedsId : List (ℕ × ℕ) → Option Meaning → Type 0
 NeedsId [] (Some (Change info effect)) = 0 < length effect.inserts + length effect.deletes
 NeedsId _ _ = ⊥
+
+-- there was no room for what it was to add: a write id, or the job that it asks for
+abbrev pub NeedsRoom : State → Transaction → Option Meaning → Type 0
+NeedsRoom state transaction (Some (Ask table partition kind)) =
+    IsFalse (stands_for state transaction (ask_of table partition kind))
+NeedsRoom state transaction meaning = NeedsId transaction.given meaning
 
 -- the first of these touches that conflicts with one of those
 abbrev pub first_shared : List Touch → List Touch → Option Touch
@@ -300,7 +311,8 @@ IsRefusedAs number _ = ⊥
 abbrev pub CauseIsTrue : State → Cause → Transaction → Type 0
 CauseIsTrue state (cause.Refused number) transaction = IsRefusedAs number (meaning transaction)
 CauseIsTrue state (cause.Conflict by table partition) transaction = ConflictIsTrue state by.0 table.0 partition transaction (meaning transaction)
-CauseIsTrue state cause.Full transaction = IsFalse (is_started transaction) ⊎ NeedsId transaction.given (meaning transaction)
+CauseIsTrue state cause.Full transaction =
+    IsFalse (is_started transaction) ⊎ NeedsRoom state transaction (meaning transaction)
 CauseIsTrue state (cause.Twice partition row) transaction = meaning transaction ≡ Some (Twice partition row)
 CauseIsTrue state cause.RowLimit transaction = meaning transaction ≡ Some RowLimit
 CauseIsTrue state cause.PartitionLimit transaction = meaning transaction ≡ Some PartitionLimit
@@ -311,6 +323,8 @@ IsTruthful state (entry.Commit txn wrote) = Of state txn.0 (CommitIsTrue state t
 IsTruthful state (entry.Create txn table) = Of state txn.0 (λ transaction. IsMake (meaning transaction))
 IsTruthful state (entry.Drop txn table) = Of state txn.0 (λ transaction. meaning transaction ≡ Some (Unmake table))
 IsTruthful state (entry.Abort txn cause) = Of state txn.0 (CauseIsTrue state cause)
+IsTruthful state (entry.Asked job table partition kind by) =
+    IsAskedFor state (record { table = table.0; partition = partition; kind = kind }) by
 IsTruthful state _ = Unit {0}
 
 -- ---- legal books: each entry fits, and each is true, behind the ones before it

@@ -1,3 +1,4 @@
+pub use Rattle.hv_built as hv_built
 pub use Rattle.hv_meaning as hv_meaning
 pub mod Spelling
 pub mod Journal
@@ -11,8 +12,8 @@ pub mod Load
 pub mod Thresholds
 pub mod Jobs
 pub mod JobsFit
-pub mod Legal
 pub mod JobsTrue
+pub mod Legal
 pub mod Book
 pub mod Places
 pub mod Lasting

@@ -1,32 +1,36 @@
 -- What SHOW lists: tables of texts and numbers that are read off the whole book at the statement's Start, so off the state that the
 -- entries before it leave. Their rows come in row order, each once. Names, texts of partitions, states and modes are strings, so
 -- they are escaped as strings are; the numbers of transactions are BIGINTs. A statement sees its own transaction open, and not yet
--- started. Source: Hive Language Manual, DDL (Show Tables, Show Partitions, Show Transactions, Show Locks), and Hive Transactions
--- (locks: shared, exclusive; aborted transactions stay until what they wrote is cleaned). Which columns are shown, and that a
--- partition is listed once a row was inserted in it, is this project's profile.
-use Rattle.std.specs.Prelude.{ℕ, ◌+◌, ◌==◌, ◌&&◌, nat_lt, nat_eq, pos, Bool, true, false, not, if◌then◌else◌, Option, Some, None, List, [], ◌∷◌, ◌++◌, map, codes}
+-- started. Source: Hive Language Manual, DDL (Show Tables, Show Partitions, Show Transactions, Show Locks, Show Compactions), and Hive
+-- Transactions (locks: shared, exclusive; aborted transactions stay until what they wrote is cleaned; a compaction's states). Which
+-- columns are shown, that a partition is listed once a row was inserted in it, and that a job of a dropped table has failed, is this
+-- project's profile.
+use Rattle.std.specs.Prelude.{ℕ, ◌+◌, ◌==◌, ◌&&◌, ◌||◌, nat_lt, nat_eq, pos, Bool, true, false, not, is_some, if◌then◌else◌, Option, Some, None, List, [], ◌∷◌, ◌++◌, map, codes}
 use Rattle.std.specs.List.{flat_map, list_any, dedup}
 use Rattle.std.specs.Ordering.{eq_by_cmp}
 use Rattle.std.specs.Cmp.Lexicographic.{pointwise}
 use Rattle.hv_base.specs.Sorting.{sorted_by}
 use Rattle.hv_base.specs.declared.ids.Touch.{Touch}
-use Rattle.hv_ast.specs.declared.statement.Show.{Show}
-use Rattle.hv_ast.specs.declared.statement.Show.TheVariants as show
-use Rattle.hv_ast.specs.declared.statement.Stmt.{Stmt}
-use Rattle.hv_ast.specs.declared.statement.Stmt.TheVariants as stmt
+use Rattle.hv_meaning.specs.hv_typing.specs.hv_logic.specs.hv_ast.specs.declared.statement.Show.{Show}
+use Rattle.hv_meaning.specs.hv_typing.specs.hv_logic.specs.hv_ast.specs.declared.statement.Show.TheVariants as show
+use Rattle.hv_meaning.specs.hv_typing.specs.hv_logic.specs.hv_ast.specs.declared.statement.Stmt.{Stmt}
+use Rattle.hv_meaning.specs.hv_typing.specs.hv_logic.specs.hv_ast.specs.declared.statement.Stmt.TheVariants as stmt
 use Rattle.hv_locks.specs.declared.table.Lock.{Lock}
 use Rattle.hv_value.specs.declared.row.Row.{Row}
+use Rattle.hv_value.specs.declared.value.Value.{Value}
 use Rattle.hv_value.specs.declared.value.Value.TheVariants as value
 use Rattle.hv_value.specs.Order.{row_cmp}
-use Rattle.hv_logic.specs.declared.meaning.Meaning.{Meaning}
-use Rattle.hv_logic.specs.declared.meaning.Meaning.TheVariants.{Listing, Plain}
+use Rattle.hv_meaning.specs.hv_typing.specs.hv_logic.specs.declared.meaning.Meaning.{Meaning}
+use Rattle.hv_meaning.specs.hv_typing.specs.hv_logic.specs.declared.meaning.Meaning.TheVariants.{Listing, Plain}
+use Rattle.hv_history.specs.declared.entry.JobKind.{JobKind}
+use Rattle.hv_history.specs.declared.entry.JobKind.TheVariants as kind
 use Rattle.hv_history.specs.declared.state.Table.{Table}
 use Rattle.hv_history.specs.declared.state.Ending.{Ending}
 use Rattle.hv_history.specs.declared.state.Ending.TheVariants.{Committed, Aborted}
 use Rattle.hv_history.specs.declared.state.Transaction.{Transaction}
 use Rattle.hv_history.specs.declared.shown.Shown.{Shown}
-use Rattle.hv_history.specs.States.{State, numbered}
-use Rattle.hv_history.specs.Standing.{is_open, is_started, locks_of, is_named}
+use Rattle.hv_history.specs.States.{State, Job, numbered}
+use Rattle.hv_history.specs.Standing.{is_open, is_started, locks_of, is_named, first_open, if_below}
 
 -- ---- rows in row order, each once
 
@@ -119,6 +123,90 @@ abbrev pub lock_rows : ℕ → Transaction → List Row
 lock_rows number transaction =
     if is_open transaction && is_started transaction then held_rows number (locks_of transaction) else []
 
+-- ---- SHOW COMPACTIONS: the jobs, and of one that is ready for cleaning the lowest open transaction below its mark
+
+abbrev pub kind_text : JobKind → List ℕ
+kind_text kind.Minor = codes "minor"
+kind_text kind.Major = codes "major"
+
+-- what happened to a job
+pub record JobSteps : Type 0 where
+  pub picked : Bool
+  pub published : Bool
+  pub nothing : Bool
+  pub cleaned : Bool
+  pub failed : Bool
+
+abbrev pub steps_of : Job → JobSteps
+steps_of job = record {
+  picked = is_some job.watermark;
+  published = is_some job.published;
+  nothing = job.is_empty;
+  cleaned = job.is_cleaned;
+  failed = is_some job.failure;
+}
+
+-- its directories stand, and those that it covers weren't all removed, of a live table
+abbrev pub stands_ready : Bool → JobSteps → Bool
+stands_ready live steps = live && (not steps.failed && (not steps.nothing && (steps.published && not steps.cleaned)))
+
+abbrev pub has_ended_well : JobSteps → Bool
+has_ended_well steps = steps.nothing || (steps.published && steps.cleaned)
+
+abbrev pub unended_text : JobSteps → List ℕ
+unended_text steps =
+    if steps.published then codes "ready for cleaning"
+    else if steps.picked then codes "working" else codes "initiated"
+
+abbrev pub stage_text : Bool → JobSteps → List ℕ
+stage_text live steps =
+    if steps.failed then codes "failed"
+    else if has_ended_well steps then codes "succeeded"
+    else if live then unended_text steps else codes "failed"
+
+-- whom a job that was published under this mark waits for, by the lowest open transaction
+abbrev pub needed_by : Option ℕ → Bool → Option ℕ → Option ℕ
+needed_by lowest ready None = None
+needed_by lowest ready (Some mark) = if ready then if_below mark lowest else None
+
+abbrev pub number_or_null : Option ℕ → Value
+number_or_null None = value.Null
+number_or_null (Some number) = value.Big (pos number)
+
+-- of a job of that number: its table's name, its partition, its kind, and what is told of it
+abbrev pub job_row : ℕ → List ℕ → List ℕ → JobKind → List ℕ → Option ℕ → Row
+job_row number name partition kind stage needed = record {
+  values =
+      value.Big (pos number) ∷ value.Str name ∷ value.Str partition ∷ value.Str (kind_text kind) ∷ value.Str stage
+      ∷ number_or_null needed ∷ [];
+}
+
+abbrev pub mark_of_range : Option (ℕ × ℕ × ℕ) → Option ℕ
+mark_of_range None = None
+mark_of_range (Some range) = Some range.2
+
+abbrev pub shown_name : Option Table → List ℕ
+shown_name None = []
+shown_name (Some table) = table.info.shape.name
+
+abbrev pub shown_live : Option Table → Bool
+shown_live None = false
+shown_live (Some table) = table.is_live
+
+-- of a job of this table
+abbrev pub row_of_job : Option Table → Option ℕ → ℕ → Job → Row
+row_of_job table lowest number job =
+    job_row number (shown_name table) job.partition job.kind (stage_text (shown_live table) (steps_of job))
+    (needed_by lowest (stands_ready (shown_live table) (steps_of job)) (mark_of_range job.published))
+
+abbrev pub row_in : List Table → Option ℕ → ℕ → Job → Row
+row_in tables lowest number job = row_of_job (numbered tables job.table) lowest number job
+
+-- of these jobs, where the first one's number is given
+abbrev pub job_rows : List Table → Option ℕ → ℕ → List Job → List Row
+job_rows tables lowest number [] = []
+job_rows tables lowest number (job ∷ jobs) = row_in tables lowest number job ∷ job_rows tables lowest (number + 1) jobs
+
 -- ---- the tables
 
 abbrev pub one_name : List ℕ → List (List ℕ)
@@ -130,6 +218,10 @@ transaction_names = codes "txnid" ∷ codes "state" ∷ codes "session" ∷ []
 abbrev pub lock_names : List (List ℕ)
 lock_names = codes "table" ∷ codes "txnid" ∷ codes "mode" ∷ []
 
+abbrev pub job_names : List (List ℕ)
+job_names =
+    codes "id" ∷ codes "table" ∷ codes "partition" ∷ codes "type" ∷ codes "state" ∷ codes "held_by" ∷ []
+
 abbrev pub shows : List (List ℕ) → List Row → Option Shown
 shows names rows = Some (record { names = names; rows = in_order rows })
 
@@ -139,7 +231,8 @@ show_listed state (show.Partitions name) =
     shows (one_name (codes "partition")) (partition_rows (number_named name state.tables) state.transactions)
 show_listed state show.Transactions = shows transaction_names (each_from (transaction_rows state.tables) 1 state.transactions)
 show_listed state show.Locks = shows lock_names (each_from lock_rows 1 state.transactions)
-show_listed state show.Compactions = None
+show_listed state show.Compactions =
+    shows job_names (job_rows state.tables (first_open 1 state.transactions) 1 state.jobs)
 
 abbrev pub show_of : Stmt → Option Show
 show_of (stmt.Show what) = Some what

@@ -4,8 +4,8 @@ ghost use Rattle.hv_history.specs.State.{written_by, given_in};
 
 use crate::state::Written;
 use hv_base::{NoMemory, WriteId};
-use hv_logic::{Effect, Shape};
 use hv_meaning::hv_route::number_rows;
+use hv_meaning::hv_typing::hv_logic::{Effect, Shape};
 use std::alloc::Global;
 
 /// What the effect of the statement of that number writes under a write id to a table of this shape. Each value of the inserted

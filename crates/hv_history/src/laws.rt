@@ -1,7 +1,7 @@
 ghost use Rattle.std.specs.Prelude.{◌≡◌, ℕ, List, [], ◌∷◌, ◌++◌, Some, fold};
 ghost use Rattle.hv_history.specs.declared.entry.Entry.{Entry};
-ghost use Rattle.hv_logic.specs.declared.catalog.Shape.{Shape};
-ghost use Rattle.hv_logic.specs.declared.effect.Effect.{Effect};
+ghost use Rattle.hv_meaning.specs.hv_typing.specs.hv_logic.specs.declared.catalog.Shape.{Shape};
+ghost use Rattle.hv_meaning.specs.hv_typing.specs.hv_logic.specs.declared.effect.Effect.{Effect};
 ghost use Rattle.hv_history.specs.declared.state.Transaction.{Transaction};
 ghost use Rattle.hv_history.specs.Lasting.{GoesOn, txn_of};
 ghost use Rattle.hv_history.specs.State.{State, numbered, state_of, after, content, written_by, IsNoCommit, Carry, Differ};

@@ -1,6 +1,7 @@
 //! The warehouse's history: its entries, what they mean, and how they are spelled.
 #![tactic(auto)]
 
+pub use hv_built;
 pub use hv_meaning;
 
 mod answers;

@@ -1,6 +1,6 @@
 use crate::entry::Cause;
 use hv_base::{Boxed, Duplicate, List, NoMemory, Text, Touch};
-use hv_logic::{Found, Meaning, TableInfo};
+use hv_meaning::hv_typing::hv_logic::{Found, Meaning, TableInfo};
 use std::alloc::Global;
 
 /// What one statement wrote under a write id of a table. `statement` is its number in its transaction: a

@@ -10,8 +10,8 @@ use Rattle.hv_history.specs.declared.entry.Entry.{Entry}
 use Rattle.hv_history.specs.State.{state_of, nothing_yet}
 use Rattle.hv_history.specs.Legal.{load, HasRoom, AllFit}
 use Rattle.hv_journal.specs.Appending.{KeepsTree}
-use Rattle.hv_law_made.specs.Opening.{whole_jobs}
-use Rattle.hv_law_made.specs.Standing.{Standing}
+use Rattle.hv_finals.specs.hv_law_made.specs.Opening.{whole_jobs}
+use Rattle.hv_finals.specs.hv_law_made.specs.Standing.{Standing}
 use Rattle.hv_recovery.specs.declared.fault.OpenFault.{OpenFault}
 use Rattle.hv_recovery.specs.declared.fault.OpenFault.TheVariants as opening
 use Rattle.hv_recovery.specs.Recovery.{IsJournalOf, IsFaultFor}

@@ -13,14 +13,14 @@ use Rattle.hv_history.specs.Legal.{is_working, one_if, working_one, HasRoom, IsL
 use Rattle.hv_history.specs.JobsFit.{is_live_job}
 use Rattle.hv_journal.specs.Appending.{KeepsTree}
 use Rattle.hv_stands.proofs.Behind.{entries-are}
-use Rattle.hv_law_made.specs.Standing.{Standing}
-use Rattle.hv_law_made.specs.Laws.{is_quiet_entry}
-use Rattle.hv_law_made.specs.Entries.{IsSoundBook, Recovers}
-use Rattle.hv_law_made.specs.Opening.{whole_jobs, is_to_publish, job_ends, JobsGo, FinalsAgree}
-use Rattle.hv_law_made.proofs.BookLemmas.{books-are-sound}
-use Rattle.hv_law_made.proofs.QuietOpenings.{quiet-recovers, quiet-keeps-whole}
-use Rattle.hv_law_made.proofs.OpeningEnds.{opening-stands}
-use Rattle.hv_law_made.proofs.OpeningStops.{opening-fronts-recover, opening-stops-recover}
+use Rattle.hv_finals.specs.hv_law_made.specs.Standing.{Standing}
+use Rattle.hv_finals.specs.hv_law_made.specs.Laws.{is_quiet_entry}
+use Rattle.hv_finals.specs.hv_law_made.specs.Entries.{IsSoundBook, Recovers}
+use Rattle.hv_finals.specs.hv_law_made.specs.Opening.{whole_jobs, is_to_publish, job_ends, JobsGo, FinalsAgree}
+use Rattle.hv_finals.specs.hv_law_made.proofs.BookLemmas.{books-are-sound}
+use Rattle.hv_finals.specs.hv_law_made.proofs.QuietOpenings.{quiet-recovers, quiet-keeps-whole}
+use Rattle.hv_finals.specs.hv_law_made.proofs.OpeningEnds.{opening-stands}
+use Rattle.hv_finals.specs.hv_law_made.proofs.OpeningStops.{opening-fronts-recover, opening-stops-recover}
 use Rattle.hv_law_read.specs.hv_law_whole.proofs.FinalLemmas.{finals-are-said}
 use Rattle.hv_house.specs.declared.boot.BootFault.{BootFault}
 use Rattle.hv_house.specs.declared.boot.BootFault.TheVariants as fault

@@ -229,15 +229,17 @@ lost-room limits book most high room =
 
 -- the items that stand are taken as those of the opening
 pub settled-ready : {D : Type 0} (limits : Limits) (told : D → Option Store) (before now : House D) → now.shelf ≡ before.shelf → now.place ≡ before.place
-    → entries_of now ≡ entries_of before → now.limits ≡ before.limits → now.trail.closed ≡ before.trail.closed → IsReadyWithin limits told before
+    → entries_of now ≡ entries_of before → now.limits ≡ before.limits → now.trail.closed ≡ before.trail.closed
+    → now.trail.starved ≡ before.trail.starved → IsReadyWithin limits told before
     → IsReadyWithin limits told now
-settled-ready limits told before now shelf place entries same closed ready = record {
+settled-ready limits told before now shelf place entries same closed starved ready = record {
   kept = record {
     place = place ∙ ready.kept.place ∙ ap place_of (sym entries);
     near = omega (arith, place, ready.kept.near, ap length entries);
     few = omega (arith, ready.kept.few, ap length entries);
     reads = subst (λ d. Holds (told d) (entries_of now)) (sym shelf) (subst (Holds (told before.shelf)) (sym entries) ready.kept.reads);
     running = closed ∙ ready.kept.running;
+    fed = starved ∙ ready.kept.fed;
   };
   limits_are = same ∙ ready.limits_are;
   within = ready.within;

@@ -13,7 +13,7 @@ use Rattle.hv_history.specs.Journal.{IsJournal}
 use Rattle.hv_history.specs.State.{State, Job, numbered, nothing_yet, after, state_of}
 use Rattle.hv_history.specs.Legal.{is_working, working_one, AllFit}
 use Rattle.hv_recovery.proofs.Books.{fit_more}
-use Rattle.hv_law_made.specs.Opening.{job_end, job_ends, JobsGo}
+use Rattle.hv_finals.specs.hv_law_made.specs.Opening.{job_end, job_ends, JobsGo}
 use Rattle.hv_finals.specs.Finals.{end_entries}
 use Rattle.hv_house.specs.declared.boot.BootFault.{BootFault}
 use Rattle.hv_house.specs.declared.boot.BootFault.TheVariants as fault

@@ -15,8 +15,8 @@ use Rattle.hv_history.specs.JobsFit.{is_live_job}
 use Rattle.hv_history.specs.Spelling.{entry_spelling}
 use Rattle.hv_history.specs.Book.{tree_of_entry}
 use Rattle.hv_journal.specs.Appending.{Holds, ReadsMore, KeepsTree}
-use Rattle.hv_law_made.specs.Opening.{is_to_publish, failing_dirs, SomeGo, AllGo, EitherBy, JobsGo}
-use Rattle.hv_law_made.proofs.GoingStands.{all-some}
+use Rattle.hv_finals.specs.hv_law_made.specs.Opening.{is_to_publish, failing_dirs, SomeGo, AllGo, EitherBy, JobsGo}
+use Rattle.hv_finals.specs.hv_law_made.proofs.GoingStands.{all-some}
 use Rattle.hv_book.specs.declared.jobs.JobRange.{JobRange}
 use Rattle.hv_finals.specs.declared.ending.JobEnd.{JobEnd}
 use Rattle.hv_finals.specs.declared.ending.JobEnd.TheVariants as its_end
@@ -70,7 +70,7 @@ err-also (Ok x) P Q also p = tt
 err-also (Err e) P Q also p = also p
 
 pub same-marks : {D : Type 0} (h : House D) → KeepsMarks h h
-same-marks h = record { start = refl; marks = refl; left = refl; limits = refl }
+same-marks h = record { start = refl; marks = refl; left = refl; limits = refl; starved = refl }
 
 pub marks-then : {D : Type 0} (a b c : House D) → KeepsMarks a b → KeepsMarks b c → KeepsMarks a c
 marks-then a b c first next = record {
@@ -78,6 +78,7 @@ marks-then a b c first next = record {
   marks = next.marks ∙ first.marks;
   left = next.left ∙ first.left;
   limits = next.limits ∙ first.limits;
+  starved = next.starved ∙ first.starved;
 }
 
 -- ---- one that is noted
@@ -382,6 +383,7 @@ kept-beside told n before mid beside went kept =
           (tells-behind (JobDirsGo (entries_of before) n) (λ s. Reads (entries_of before) s.journal) (λ t. Reads (entries_of before) t.journal)
           (λ s t reads gone. subst (Reads (entries_of before)) (sym gone.journal_is) reads) (told before.shelf) (told mid.shelf) kept.reads went);
       running = ap (λ b. b.closed) beside.book ∙ kept.running;
+      fed = ap (λ b. b.starved) beside.book ∙ kept.fed;
     }
 
 -- ---- how it ends

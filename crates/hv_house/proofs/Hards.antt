@@ -1,11 +1,12 @@
 -- The hard count over one call: a house that was open is closed only where it rose.
-use Rattle.std.proofs.Common.{◌≡◌, ℕ, ◌≤◌, Bool, true, false, true≢false, Result, Ok, Err, IsErrOf, refl, sym, ap, ◌∙◌, subst, arith}
-use Rattle.std.specs.Prelude.{IfErr}
+use Rattle.std.proofs.Common.{◌≡◌, ℕ, ◌≤◌, Bool, true, false, true≢false, Option, Result, Ok, Err, IsErrOf, refl, sym, ap, ◌∙◌, subst, arith}
+use Rattle.std.specs.Prelude.{IfErr, ◌&&◌, not}
+use Rattle.hv_shelf.specs.Disk.{Store}
 use Rattle.hv_base.specs.Faults.{Rose}
 use Rattle.hv_shelf.specs.declared.fault.ShelfFault.{ShelfFault}
 use Rattle.hv_shelf.specs.declared.fault.ShelfFault.TheVariants as shelf
 use Rattle.hv_shelf.specs.Causes.{last_count, SoftCause, HardCause}
-use Rattle.hv_trail.specs.Steps.{HouseSeen}
+use Rattle.hv_trail.specs.Steps.{HouseSeen, Call, Outcome, Done, Conflict, Failed, Closed, Starved, Refused, StarvesBy, Step}
 use Rattle.hv_house.specs.declared.fault.HouseFault.{HouseFault}
 use Rattle.hv_house.specs.declared.fault.HouseFault.TheVariants as fault
 use Rattle.hv_house.specs.declared.house.House.{House}
@@ -31,6 +32,21 @@ pub failed_step : {T : Type 0} (result : Result T ShelfFault) (fault : ShelfFaul
 failed_step result fault faults faults' hard hard' hard'' was mid is at left stays cause last =
     soft_step (IsErrOf result shelf.Failed) (fault ≡ shelf.Failed) faults faults' hard hard' hard'' was mid is
     (λ e. at ∙ ap (λ (f : ShelfFault). Err f) e) left stays cause last
+
+-- of a removal that failed
+pub soft_remove : (Fails : Type 0) (faults faults' hard hard' hard'' : ℕ) (was is : Bool) → Fails → hard'' ≡ hard'
+    → SoftCause Fails faults faults' hard hard' → ShutsAtLast (Unit {0}) faults' was is → HardStep hard hard'' was is
+soft_remove Fails faults faults' hard hard' hard'' was is fails stays cause last = record {
+  later = omega (arith, stays, cause.hard_later);
+  shuts = λ w i.
+      let so = last.shuts w i in
+      let risen : Rose hard hard' = cause.failed_last fails so.1 in
+      omega (arith, stays, risen);
+}
+
+-- behind a call that left the store, and whether the house is closed
+pub roomy_step : (hard hard' : ℕ) (was mid is : Bool) → mid ≡ was → HardStep hard hard' mid is → HardStep hard hard' was is
+roomy_step hard hard' was mid is same step = record { later = step.later; shuts = λ w i. step.shuts (same ∙ w) i }
 
 -- and of one that didn't fail
 pub fine_step : (Fails : Type 0) (faults faults' hard hard' : ℕ) (was is : Bool) → is ≡ was → SoftCause Fails faults faults' hard hard' → HardStep hard hard' was is
@@ -81,6 +97,10 @@ last_failed result fault faults was is at last = record {
 
 -- ---- since the opening
 
+first-so : (a b : Bool) → a && b ≡ true → a ≡ true
+first-so true b e = refl
+first-so false b e = e
+
 opened-later : (start shelf now : ℕ) → start ≡ shelf → shelf ≤ now → start ≤ now
 opened-later start shelf now same le = omega (arith, same, le)
 
@@ -88,7 +108,7 @@ pub opened_shuts : {D : Type 0} (hard : D → ℕ) (shelf : D) (house : House D)
     → ShutsHard hard (seen_of house)
 opened_shuts hard shelf house over running later = record {
   later = opened-later (hard house.start.value) (hard shelf) (hard house.shelf) (ap hard over.start) later;
-  rose = λ is. absurd (true≢false (sym is ∙ running));
+  rose = λ is fed. absurd (true≢false (sym is ∙ running));
 }
 
 later-on : (first start low high : ℕ) → first ≡ start → start ≤ low → low ≤ high → first ≤ high
@@ -100,16 +120,39 @@ rose-on first start low high same rose le = omega (arith, same, rose, le)
 rose-over : (first start low high : ℕ) → first ≡ start → start ≤ low → Rose low high → Rose first high
 rose-over first start low high same le rose = omega (arith, same, le, rose)
 
-pub shuts_later : {D : Type 0} (hard : D → ℕ) (before now : HouseSeen D) → now.start ≡ before.start
-    → HardStep (hard before.shelf) (hard now.shelf) before.closed now.closed → ShutsHard hard before → ShutsHard hard now
-shuts_later hard before now start step shuts = record {
-  later = later-on (hard now.start) (hard before.start) (hard before.shelf) (hard now.shelf) (ap hard start) shuts.later step.later;
+-- who isn't starved behind a step wasn't before it
+fed-before : (outcome : Outcome) (was is : Bool) → StarvesBy outcome was is → is ≡ false → was ≡ false
+fed-before Done was is same fed = sym same ∙ fed
+fed-before (Conflict with_ table partition) was is same fed = sym same ∙ fed
+fed-before (Failed count) was is same fed = sym same ∙ fed
+fed-before Closed was is same fed = sym same ∙ fed
+fed-before Starved was is starved fed = absurd (true≢false (sym starved ∙ fed))
+fed-before Refused was is same fed = sym same ∙ fed
+
+-- by a step of which the house is shut so only where the hard count rose
+pub shuts_behind : {D : Type 0} (told : D → Option Store) (faults hard : D → ℕ) (call : Call) (outcome : Outcome) (before now : HouseSeen D)
+    → Step told faults call outcome before now → HardStep (hard before.shelf) (hard now.shelf) before.closed (now.closed && not now.starved)
+    → ShutsHard hard before → ShutsHard hard now
+shuts_behind told faults hard call outcome before now made step shuts = record {
+  later = later-on (hard now.start) (hard before.start) (hard before.shelf) (hard now.shelf) (ap hard made.rest.start) shuts.later step.later;
   rose = by before.closed refl;
 }
   where
-    by : (b : Bool) → before.closed ≡ b → now.closed ≡ true → Rose (hard now.start) (hard now.shelf)
-    by true was is = rose-on (hard now.start) (hard before.start) (hard before.shelf) (hard now.shelf) (ap hard start) (shuts.rose was) step.later
-    by false was is = rose-over (hard now.start) (hard before.start) (hard before.shelf) (hard now.shelf) (ap hard start) shuts.later (step.shuts was is)
+    by : (b : Bool) → before.closed ≡ b → now.closed ≡ true → now.starved ≡ false → Rose (hard now.start) (hard now.shelf)
+    by true was is fed =
+        rose-on (hard now.start) (hard before.start) (hard before.shelf) (hard now.shelf) (ap hard made.rest.start)
+        (shuts.rose was (fed-before outcome before.starved now.starved made.starved fed)) step.later
+    by false was is fed =
+        rose-over (hard now.start) (hard before.start) (hard before.shelf) (hard now.shelf) (ap hard made.rest.start) shuts.later
+        (step.shuts was (ap (λ c. c && not now.starved) is ∙ ap not fed))
+
+-- by one of which it is shut only where the hard count rose
+pub shuts_later : {D : Type 0} (told : D → Option Store) (faults hard : D → ℕ) (call : Call) (outcome : Outcome) (before now : HouseSeen D)
+    → Step told faults call outcome before now → HardStep (hard before.shelf) (hard now.shelf) before.closed now.closed
+    → ShutsHard hard before → ShutsHard hard now
+shuts_later told faults hard call outcome before now made step shuts =
+    shuts_behind told faults hard call outcome before now made
+    (record { later = step.later; shuts = λ was is. step.shuts was (first-so now.closed (not now.starved) is) }) shuts
 
 -- ---- an opening, which notes in an open house
 

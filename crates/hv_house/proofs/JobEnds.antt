@@ -14,8 +14,8 @@ use Rattle.hv_history.specs.Legal.{is_working, one_if, working_one, Fits}
 use Rattle.hv_history.specs.Jobs.{pieces_for, is_empty_of}
 use Rattle.hv_history.specs.JobsFit.{PublishedFits, FailedFits, is_live_job}
 use Rattle.hv_book.proofs.HeldLaws.{numbered-other}
-use Rattle.hv_law_made.specs.Entries.{publishing}
-use Rattle.hv_law_made.specs.Opening.{is_among, is_to_publish, fails_as_lost, fails_as_gone, job_end, job_ends, failing_dirs, AllGo, EitherBy, JobsGo}
+use Rattle.hv_finals.specs.hv_law_made.specs.Entries.{publishing}
+use Rattle.hv_finals.specs.hv_law_made.specs.Opening.{is_among, is_to_publish, fails_as_lost, fails_as_gone, job_end, job_ends, failing_dirs, AllGo, EitherBy, JobsGo}
 
 -- ---- what one changes of the jobs: itself alone
 

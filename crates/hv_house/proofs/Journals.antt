@@ -41,9 +41,10 @@ pub noted : {D : Type 0} (told : D → Option Store) (events : List Entry) (befo
     → now.place ≡ before.place + place_of events
     → Holds (told now.shelf) (entries_of before ++ events)
     → now.trail.closed ≡ before.trail.closed
+    → now.trail.starved ≡ before.trail.starved
     → Moves KeepsTree (told before.shelf) (told now.shelf)
     → AreNoted told events before now
-noted told events before now kept small room entries place holds closed tree = record {
+noted told events before now kept small room entries place holds closed starved tree = record {
   kept = record {
     place = omega (arith, place, kept.place, place_join (entries_of before) events) ∙ ap place_of (sym entries);
     near = subst (λ (b : List Entry). now.place ≤ 2 ^ 62 + length b * 65541) (sym entries)
@@ -51,6 +52,7 @@ noted told events before now kept small room entries place holds closed tree = r
     few = omega (arith, ap length entries, length-append (entries_of before) events, room);
     reads = subst (Holds (told now.shelf)) (sym entries) holds;
     running = closed ∙ kept.running;
+    fed = starved ∙ kept.fed;
   };
   entries = entries;
   tree = tree;

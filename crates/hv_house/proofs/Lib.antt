@@ -12,9 +12,13 @@ pub mod Raising
 pub mod Booted
 pub mod BootClauses
 pub mod Steps
-pub mod Reading
+pub mod Readings
 pub mod Ready
 pub mod Putting
+pub mod Removals
+pub mod Renamed
+pub mod Publications
+pub mod Rooms
 pub mod Past
 pub mod Listings
 pub mod Beginning

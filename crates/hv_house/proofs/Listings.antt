@@ -16,8 +16,8 @@ use Rattle.hv_history.specs.Legal.{is_open}
 use Rattle.hv_earlier.specs.Lists.{catalog_at, info_of_name}
 use Rattle.hv_stands.specs.Reading.{table_of_name}
 use Rattle.hv_stands.proofs.Numbers.{found}
-use Rattle.hv_law_made.specs.Standing.{Standing, HasFile, IsEncodingOf}
-use Rattle.hv_law_made.proofs.BookLemmas.{books-are-sound}
+use Rattle.hv_finals.specs.hv_law_made.specs.Standing.{Standing, HasFile, IsEncodingOf}
+use Rattle.hv_finals.specs.hv_law_made.proofs.BookLemmas.{books-are-sound}
 use Rattle.hv_law_read.proofs.NeedLemmas.{needed-stands}
 use Rattle.hv_house.specs.declared.house.House.{House}
 use Rattle.hv_house.specs.House.{entries_of, IsReadyWithin}

@@ -81,7 +81,7 @@ module _ {D : Type 0} (limits : Limits) (told : D → Option Store) (faults : D 
 module _ {D : Type 0} (limits : Limits) (told : D → Option Store) (faults : D → ℕ) (event : Entry) (house : House D) (ready : IsReadyWithin limits told house) where
   refused-step : Step told faults (Note event) (fault_outcome house_fault.NoMemory) (seen_of house) (seen_of house)
   refused-step =
-      step-halted told faults (Note event) (event ∷ []) (noting-one event) house house ready.kept.running refl refl refl (keeps_tree (told house.shelf)) (omega arith)
+      step-halted told faults (Note event) (event ∷ []) (noting-one event) house house ready.kept.running refl refl refl refl (keeps_tree (told house.shelf)) (omega arith)
       house_fault.NoMemory refl refl ready.kept.reads
 
   pub entry-full : {T : Type 0} (entries : ℕ) → EntryStepWithin {T = T} limits told faults event house house (Err (fault.Full entries))

@@ -13,8 +13,8 @@ use Rattle.hv_history.specs.declared.state.Transaction.{Transaction}
 use Rattle.hv_history.specs.State.{State, Job, nothing_yet, numbered, changed, changed_at, unless_ended, while_open, ended, acted, after, state_of}
 use Rattle.hv_history.specs.Legal.{is_open, is_working, load, Fits, IsTruthful, AllFit, AllTruthful, IsLegalFrom, IsLegal, LostFits}
 use Rattle.hv_history.specs.JobsFit.{is_live_job}
-use Rattle.hv_law_made.specs.Entries.{publishing}
-use Rattle.hv_law_made.specs.Opening.{is_to_publish, fails_as_lost, fails_as_gone, job_end, job_ends}
+use Rattle.hv_finals.specs.hv_law_made.specs.Entries.{publishing}
+use Rattle.hv_finals.specs.hv_law_made.specs.Opening.{is_to_publish, fails_as_lost, fails_as_gone, job_end, job_ends}
 use Rattle.hv_house.specs.Booting.{number_next, marked_from, open_numbers, lost_entry, lost_entries, lost_book, opening_entries, opening_with}
 use Rattle.hv_house.specs.Ending.{ends_of}
 use Rattle.hv_house.proofs.Faithful.{truthful-from}

@@ -17,7 +17,7 @@ use Rattle.hv_history.specs.State.{State, nothing_yet, after, state_of}
 use Rattle.hv_history.specs.Legal.{working_one, load, HasRoom, AllFit}
 use Rattle.hv_journal.specs.Appending.{KeepsTree}
 use Rattle.hv_trail.specs.Kept.{trail_of}
-use Rattle.hv_law_made.specs.Opening.{whole_jobs, job_ends, JobsGo}
+use Rattle.hv_finals.specs.hv_law_made.specs.Opening.{whole_jobs, job_ends, JobsGo}
 use Rattle.hv_finals.specs.Finals.{CanName, CallsCause}
 use Rattle.hv_finals.proofs.CallLemmas.{calls-as}
 use Rattle.hv_house.specs.declared.boot.BootFault.{BootFault}
@@ -252,13 +252,14 @@ module _ {D : Type 0} (told : D → Option Store) (faults hard : D → ℕ) (boo
   pub opened-raised : (limits : Limits) (start : D) (now : House D) → OpeningStep told faults hard whole before noted (Ok tt) → entries_of before ≡ book
       → before.shelf ≡ first → before.start.value ≡ start → before.trail.marks ≡ [] → before.limits ≡ limits → limits.entries ≤ 9999999
       → AllFit limits nothing_yet book → HasRoom limits (state_of book) 1 → now.shelf ≡ noted.shelf → now.place ≡ noted.place
-      → entries_of now ≡ entries_of noted → now.limits ≡ noted.limits → now.trail.closed ≡ noted.trail.closed → now.start.value ≡ noted.start.value
+      → entries_of now ≡ entries_of noted → now.limits ≡ noted.limits → now.trail.closed ≡ noted.trail.closed
+      → now.trail.starved ≡ noted.trail.starved → now.start.value ≡ noted.start.value
       → now.trail.marks ≡ noted.trail.marks → now.trail.opened ≡ length (trail_of noted.trail) → IsRaised told faults hard limits start first book whole now
-  opened-raised limits start now step at from started bare limited most fit room shelf place entries limits_are closed start_is marks opened =
+  opened-raised limits start now step at from started bare limited most fit room shelf place entries limits_are closed starved start_is marks opened =
       let whole_book : entries_of noted ≡ opening_with whole book = step.entries ∙ ap (opening_with whole) at in
       subst (λ (d : D). IsRaised told faults hard limits start d book whole now) from (record {
         ready =
-            settled-ready limits told noted now shelf place entries limits_are closed (record {
+            settled-ready limits told noted now shelf place entries limits_are closed starved (record {
               kept = step.kept;
               limits_are = step.marks.limits ∙ limited;
               within = most;

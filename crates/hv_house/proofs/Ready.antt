@@ -21,23 +21,26 @@ use Rattle.hv_house.specs.House.{entries_of, IsKept, IsReadyWithin, AreNoted, St
 -- ---- it was only asked, or files were put
 
 module _ {D : Type 0} (limits : Limits) (told : D → Option Store) (before now : House D) where
-  same-kept : now.place ≡ before.place → entries_of now ≡ entries_of before → now.trail.closed ≡ before.trail.closed → Holds (told now.shelf) (entries_of before)
+  same-kept : now.place ≡ before.place → entries_of now ≡ entries_of before → now.trail.closed ≡ before.trail.closed
+      → now.trail.starved ≡ before.trail.starved → Holds (told now.shelf) (entries_of before)
       → IsKept told before → IsKept told now
-  same-kept place entries closed holds kept = record {
+  same-kept place entries closed starved holds kept = record {
     place = place ∙ kept.place ∙ ap place_of (sym entries);
     near = omega (arith, place, kept.near, ap length entries);
     few = omega (arith, kept.few, ap length entries);
     reads = subst (Holds (told now.shelf)) (sym entries) holds;
     running = closed ∙ kept.running;
+    fed = starved ∙ kept.fed;
   }
 
   asked-holds : IsAsked told before now → IsReadyWithin limits told before → Holds (told now.shelf) (entries_of before)
   asked-holds asked ready = subst (λ o. Holds o (entries_of before)) (sym asked.store) ready.kept.reads
 
-  pub asked-ready : IsAsked told before now → now.limits ≡ before.limits → now.trail.closed ≡ before.trail.closed → IsReadyWithin limits told before
+  pub asked-ready : IsAsked told before now → now.limits ≡ before.limits → now.trail.closed ≡ before.trail.closed
+      → now.trail.starved ≡ before.trail.starved → IsReadyWithin limits told before
       → IsReadyWithin limits told now
-  asked-ready asked same closed ready = record {
-    kept = same-kept asked.place asked.book closed (asked-holds asked ready) ready.kept;
+  asked-ready asked same closed starved ready = record {
+    kept = same-kept asked.place asked.book closed starved (asked-holds asked ready) ready.kept;
     limits_are = same ∙ ready.limits_are;
     within = ready.within;
     fit = subst (AllFit limits nothing_yet) (sym asked.book) ready.fit;
@@ -48,8 +51,8 @@ module _ {D : Type 0} (limits : Limits) (told : D → Option Store) (before now 
   still-closed ready same = same ∙ ap (λ c. c || false) ready.kept.running ∙ sym ready.kept.running
 
   pub read-stays : (call : Call) (why : HouseFault) → IsAsked told before now → GainsBy call (fault_outcome why) before now → IsReadyWithin limits told before → StaysPutWithin limits told why now
-  read-stays call fault.NoMemory asked gains ready = asked-ready asked gains.limits (still-closed ready gains.closed) ready
-  read-stays call (fault.Failed count) asked gains ready = asked-ready asked gains.limits (still-closed ready gains.closed) ready
+  read-stays call fault.NoMemory asked gains ready = asked-ready asked gains.limits (still-closed ready gains.closed) gains.starved ready
+  read-stays call (fault.Failed count) asked gains ready = asked-ready asked gains.limits (still-closed ready gains.closed) gains.starved ready
   read-stays call fault.Store asked gains ready = subst (Holds (told now.shelf)) (sym asked.book) (asked-holds asked ready)
 
   -- a file was put, or that failed
@@ -65,7 +68,7 @@ module _ {D : Type 0} (limits : Limits) (told : D → Option Store) (before now 
   put-kept : {outcome : Outcome} (call : Call) → shuts outcome ≡ false → GainsBy call outcome before now → Moves KeepsJournal (told before.shelf) (told now.shelf)
       → IsReadyWithin limits told before → IsReadyWithin limits told now
   put-kept {outcome = outcome} call open_ gains keeps ready = record {
-    kept = same-kept gains.place gains.entries (still-closed ready (gains.closed ∙ ap (λ c. before.trail.closed || c) open_)) (holds-behind keeps ready) ready.kept;
+    kept = same-kept gains.place gains.entries (still-closed ready (gains.closed ∙ ap (λ c. before.trail.closed || c) open_)) gains.starved (holds-behind keeps ready) ready.kept;
     limits_are = gains.limits ∙ ready.limits_are;
     within = ready.within;
     fit = subst (AllFit limits nothing_yet) (sym gains.entries) ready.fit;

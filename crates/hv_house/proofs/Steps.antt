@@ -106,7 +106,7 @@ shut-or a b running shut = shut ∙ sym (ap (λ c. c || true) running)
 
 module _ {D : Type 0} (told : D → Option Store) (faults : D → ℕ) (call : Call) (events : List Entry) (noting : IsNoting call events)
     (before now : House D) (running : before.trail.closed ≡ false) (start : now.start ≡ before.start) (left : now.trail.opened ≡ before.trail.opened) (limits : now.limits ≡ before.limits)
-    (tree : Moves KeepsTree (told before.shelf) (told now.shelf)) (later : faults before.shelf ≤ faults now.shelf) where
+    (starved : now.trail.starved ≡ before.trail.starved) (tree : Moves KeepsTree (told before.shelf) (told now.shelf)) (later : faults before.shelf ≤ faults now.shelf) where
   pub step-done : trail_of now.trail ≡ trail_of before.trail ++ map Noted events → now.trail.closed ≡ before.trail.closed
       → Holds (told now.shelf) (entries_of before ++ events) → Step told faults call Done (seen_of before) (seen_of now)
   step-done trail closed holds = record {
@@ -115,6 +115,7 @@ module _ {D : Type 0} (told : D → Option Store) (faults : D → ℕ) (call : C
     store = moves-by (told before.shelf) (told now.shelf) _ _ (noting.done _)
         (moves-noted (told before.shelf) (told now.shelf) events _ (entries_of before) (trail-book before.trail.entries before.trail.marks) tree holds);
     closed = same-or before.trail.closed now.trail.closed running closed;
+    starved = starved;
     shut_out = λ shut. absurd (true≢false (sym shut ∙ running));
     counts = later;
     rest = record { start = ap (λ s. s.value) start; opened = left; limits = limits };
@@ -132,6 +133,7 @@ module _ {D : Type 0} (told : D → Option Store) (faults : D → ℕ) (call : C
     store = moves-by (told before.shelf) (told now.shelf) _ _ (noting.closed _)
         (moves-stopped (told before.shelf) (told now.shelf) events _ (entries_of before) (trail-book before.trail.entries before.trail.marks) tree leaves);
     closed = shut-or before.trail.closed now.trail.closed running closed;
+    starved = starved;
     shut_out = λ shut. absurd (true≢false (sym shut ∙ running));
     counts = later;
     rest = record { start = ap (λ s. s.value) start; opened = left; limits = limits };
@@ -142,6 +144,7 @@ module _ {D : Type 0} (told : D → Option Store) (faults : D → ℕ) (call : C
     store = moves-by (told before.shelf) (told now.shelf) _ _ (noting.refused _)
         (moves-none (told before.shelf) (told now.shelf) _ (entries_of before) (trail-book before.trail.entries before.trail.marks) tree leaves);
     closed = same-or before.trail.closed now.trail.closed running closed;
+    starved = starved;
     shut_out = λ shut. absurd (true≢false (sym shut ∙ running));
     counts = later;
     rest = record { start = ap (λ s. s.value) start; opened = left; limits = limits };

@@ -13,9 +13,9 @@ use Rattle.hv_history.specs.State.{State, nothing_yet, after, state_of}
 use Rattle.hv_history.specs.Journal.{IsJournal}
 use Rattle.hv_history.specs.Legal.{is_open, working_one, load, HasRoom, AllFit, IsLegal, profile}
 use Rattle.hv_journal.specs.Appending.{KeepsTree}
-use Rattle.hv_law_made.specs.Entries.{Recovers}
-use Rattle.hv_law_made.specs.Opening.{whole_jobs, job_ends}
-use Rattle.hv_law_made.specs.Standing.{Standing}
+use Rattle.hv_finals.specs.hv_law_made.specs.Entries.{Recovers}
+use Rattle.hv_finals.specs.hv_law_made.specs.Opening.{whole_jobs, job_ends}
+use Rattle.hv_finals.specs.hv_law_made.specs.Standing.{Standing}
 use Rattle.hv_recovery.specs.Recovery.{IsJournalOf, IsBadJournalAt}
 use Rattle.hv_recovery.specs.declared.fault.OpenFault.{OpenFault}
 use Rattle.hv_recovery.specs.declared.fault.OpenFault.TheVariants as opening
@@ -120,7 +120,8 @@ abbrev pub HasNoBook : Limits → Store → Type 0
 HasNoBook limits store = (book : List Entry) → IsJournalOf limits book store.journal → ⊥
 
 abbrev pub HasFullBook : Limits → Store → Type 0
-HasFullBook limits store = (book : List Entry) → IsJournalOf limits book store.journal → limits.entries < load (state_of book) + 1
+HasFullBook limits store = (book : List Entry) → IsJournalOf limits book store.journal
+    → limits.entries < load (state_of book) + 1
 
 -- a journal that is bad, and one that is full, are left as they are, and no other is called so
 abbrev pub IsBootFault : Limits → Option Store → Option Store → BootFault → Type 0
@@ -192,10 +193,12 @@ NotesWithRoom limits book bytes = IsJournal book bytes ⊎ HasRoom limits (state
 
 -- so it is of an opening that stopped, for the book that the journal read to
 abbrev pub StopsWithRoom : Limits → Option Store → Option Store → Type 0
-StopsWithRoom limits before now = Moves (λ s t. (book : List Entry) → IsJournalOf limits book s.journal → NotesWithRoom limits book t.journal) before now
+StopsWithRoom limits before now = Moves (λ s t. (book : List Entry) → IsJournalOf limits book s.journal
+    → NotesWithRoom limits book t.journal) before now
 
 -- some of these transactions were aborted as lost, and the next one wasn't
-pub record LosesSome {D : Type 0} (told : D → Option Store) (why : HouseFault) (open_ : List ℕ) (before now : House D) : Type 0 where
+pub record LosesSome {D : Type 0} (told : D → Option Store) (why : HouseFault) (open_ : List ℕ) (before now : House D) :
+    Type 0 where
   pub lost : List ℕ
   pub next : ℕ
   pub more : List ℕ
@@ -206,7 +209,8 @@ pub record LosesSome {D : Type 0} (told : D → Option Store) (why : HouseFault)
 -- a book that was read has no room for its opening
 abbrev pub IsRaiseFault : Limits → List Entry → Option Store → Option Store → BootFault → Type 0
 IsRaiseFault limits book before now (fault.BadJournal at) = ⊥
-IsRaiseFault limits book before now (fault.Full entries) = (now ≡ before) × (entries ≡ length book) × (limits.entries < load (state_of book) + 1)
+IsRaiseFault limits book before now (fault.Full entries) = (now ≡ before) × (entries ≡ length book)
+    × (limits.entries < load (state_of book) + 1)
 IsRaiseFault limits book before now _ = Unit {0}
 
 -- what is learned of a book

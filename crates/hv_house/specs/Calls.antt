@@ -116,7 +116,8 @@ HasRisenNoting faults faults' (fault.House why) = HasRisen faults faults' why
 HasRisenNoting faults faults' _ = Unit {0}
 
 -- all that is promised of a call that notes this entry
-pub record EntryStepWithin {D T : Type 0} (limits : Limits) (told : D → Option Store) (faults : D → ℕ) (event : Entry) (before now : House D) (result : Result T EntryFault) : Type 0 where
+pub record EntryStepWithin {D T : Type 0} (limits : Limits) (told : D → Option Store) (faults : D → ℕ) (event : Entry)
+    (before now : House D) (result : Result T EntryFault) : Type 0 where
   pub ready : IfOk result (λ _. IsReadyWithin limits told now)
   pub noted : IfOk result (λ _. IsNoted told event before now)
   pub stays : IfErr result (λ why. StaysOpenWithin limits told why now)

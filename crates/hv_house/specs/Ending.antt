@@ -8,7 +8,7 @@ use Rattle.hv_history.specs.State.{State, Job, numbered, after, state_of}
 use Rattle.hv_history.specs.Journal.{IsJournal}
 use Rattle.hv_history.specs.Legal.{is_working}
 use Rattle.hv_history.specs.JobsFit.{is_live_job}
-use Rattle.hv_law_made.specs.Opening.{is_to_publish, job_ends, failing_dirs, SomeGo, AllGo, JobsGo}
+use Rattle.hv_finals.specs.hv_law_made.specs.Opening.{is_to_publish, job_ends, failing_dirs, SomeGo, AllGo, JobsGo}
 use Rattle.hv_house.specs.declared.boot.BootFault.{BootFault}
 use Rattle.hv_house.specs.declared.boot.BootFault.TheVariants as fault
 use Rattle.hv_house.specs.declared.house.House.{House}

@@ -9,7 +9,7 @@ use Rattle.hv_history.specs.Spelling.{entry_spelling}
 use Rattle.hv_history.specs.Journal.{place_of}
 use Rattle.hv_history.specs.Legal.{IsLegal, Fits, AllFit, profile}
 use Rattle.hv_journal.specs.Appending.{Holds, HoldsMore, KeepsTree}
-use Rattle.hv_law_made.specs.Standing.{Standing}
+use Rattle.hv_finals.specs.hv_law_made.specs.Standing.{Standing}
 use Rattle.hv_stands.specs.Running.{Asking, opening, starting, next_number}
 use Rattle.hv_house.specs.declared.fault.HouseFault.{HouseFault}
 use Rattle.hv_house.specs.declared.fault.HouseFault.TheVariants as fault
@@ -32,13 +32,14 @@ book_limit = 9999999
 abbrev pub entries_of : {D : Type 0} → House D → List Entry
 entries_of house = house.trail.entries
 
--- the journal is the book's, its closed gate stands where the house has it, and it didn't fail
+-- the journal is the book's, its closed gate stands where the house has it, it didn't fail, and memory didn't lack in a publication
 pub record IsKept {D : Type 0} (told : D → Option Store) (house : House D) : Type 0 where
   pub place : house.place ≡ place_of (entries_of house)
   pub near : house.place ≤ 2 ^ 62 + length (entries_of house) * record_limit
   pub few : length (entries_of house) ≤ book_limit
   pub reads : Holds (told house.shelf) (entries_of house)
   pub running : house.trail.closed ≡ false
+  pub fed : house.trail.starved ≡ false
 
 -- between two calls of a house with these limits: each entry of its book fits, whatever transactions are open
 pub record IsReadyWithin {D : Type 0} (limits : Limits) (told : D → Option Store) (house : House D) : Type 0 where
@@ -100,7 +101,8 @@ Leaves fault.Store events told book = HoldsMore told book events
 Leaves (fault.Failed count) events told book = ⊥
 
 -- the entries weren't noted: the book is as it was, and so are the files
-pub record AreHalted {D : Type 0} (told : D → Option Store) (events : List Entry) (why : HouseFault) (before now : House D) : Type 0 where
+pub record AreHalted {D : Type 0} (told : D → Option Store) (events : List Entry) (why : HouseFault)
+    (before now : House D) : Type 0 where
   pub entries : entries_of now ≡ entries_of before
   pub tree : Moves KeepsTree (told before.shelf) (told now.shelf)
   pub leaves : Leaves why events (told now.shelf) (entries_of before)
@@ -109,7 +111,8 @@ abbrev pub IsHalted : {D : Type 0} → (D → Option Store) → Entry → HouseF
 IsHalted told event why before now = AreHalted told (event ∷ []) why before now
 
 -- the house stays ready where memory lacked
-pub record StaysReadyWithin {D : Type 0} (limits : Limits) (told : D → Option Store) (why : HouseFault) (now : House D) : Type 0 where
+pub record StaysReadyWithin {D : Type 0} (limits : Limits) (told : D → Option Store) (why : HouseFault)
+    (now : House D) : Type 0 where
   pub ready : why ≡ fault.NoMemory → IsReadyWithin limits told now
 
 abbrev pub StaysReady : {D : Type 0} → (D → Option Store) → HouseFault → House D → Type 0

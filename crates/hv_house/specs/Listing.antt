@@ -14,7 +14,7 @@ use Rattle.hv_history.specs.declared.state.Table.{Table}
 use Rattle.hv_history.specs.declared.state.Transaction.{Transaction}
 use Rattle.hv_history.specs.State.{state_of}
 use Rattle.hv_history.specs.Legal.{profile, is_open, Of}
-use Rattle.hv_law_made.specs.Standing.{Standing, is_live_at}
+use Rattle.hv_finals.specs.hv_law_made.specs.Standing.{Standing, is_live_at}
 use Rattle.hv_law_read.specs.Needs.{IsNeededBy}
 use Rattle.hv_choosing.specs.declared.listing.DirFile.{DirFile}
 use Rattle.hv_choosing.specs.Listing.{AreListed}
@@ -65,11 +65,11 @@ pub record IsNeeded {D : Type 0} (told : D → Option Store) (house : House D) (
 
 -- ---- how it ends
 
--- what every call that reads leaves, for a reader: the store as it was, and in the trail the mark of one that failed
-pub record ReadStep {D T : Type 0} (told : D → Option Store) (faults : D → ℕ) (by : Reader) (before now : House D)
-    (result : Result T HouseFault) : Type 0 where
+-- what every call that reads leaves, for a reader or for nobody: the store as it was, and in the trail the mark of one that failed
+pub record ReadStep {D T : Type 0} (told : D → Option Store) (faults : D → ℕ) (by : Option Reader)
+    (before now : House D) (result : Result T HouseFault) : Type 0 where
   pub store : told now.shelf ≡ told before.shelf
-  pub gains : GainsBy (Read (Some by)) (outcome_of result) before now
+  pub gains : GainsBy (Read by) (outcome_of result) before now
   pub cause : FileCause (faults before.shelf) (faults now.shelf) result
 
 -- ---- files that were to be listed

@@ -3,7 +3,7 @@ ghost use Rattle.std.specs.Option.{option_copied};
 ghost use Rattle.hv_base.specs.declared.ids.Limits.{Limits};
 ghost use Rattle.hv_locks.specs.declared.table.LockState.TheVariants.{Granted};
 ghost use Rattle.hv_history.specs.State.{state_of, numbered};
-ghost use Rattle.hv_history.specs.Legal.{Fits};
+ghost use Rattle.hv_history.specs.Legal.{HasRoom, Fits};
 ghost use Rattle.hv_built.specs.Running.{Runs};
 ghost use Rattle.hv_stands.specs.Running.{Asking, next_number};
 ghost use Rattle.hv_recovery.specs.hv_fits.specs.Texts.{IsHanded};
@@ -62,6 +62,15 @@ impl<D: Shelf> House<D> {
         ensures fits { IsTrue result ↔ Fits limits (state_of (entries_of self.now)) entry.now }
     {
         hv_recovery::hv_fits::fits(self.trail.book(), &self.limits, entry, tree)
+    }
+
+    /// Whether there is room for so much of the load more.
+    pub fn has_room(&self, more: u64) -> bool
+        ghost limits: { Limits }
+        requires ready { IsReadyWithin limits D.told self.now }
+        ensures room { IsTrue result ↔ HasRoom limits (state_of (entries_of self.now)) more }
+    {
+        has_room(self.trail.book(), &self.limits, more)
     }
 
     /// Whether a statement of this tree could be opened and started at once: there is room for both and for its

@@ -5,7 +5,7 @@ ghost use Rattle.hv_history.specs.Journal.{place_of, IsJournal};
 ghost use Rattle.hv_history.specs.State.{state_of, nothing_yet};
 ghost use Rattle.hv_history.specs.Legal.{AllFit, HasRoom};
 ghost use Rattle.hv_journal.specs.Appending.{Holds, KeepsTree};
-ghost use Rattle.hv_law_made.specs.Opening.{whole_jobs};
+ghost use Rattle.hv_finals.specs.hv_law_made.specs.Opening.{whole_jobs};
 ghost use Rattle.hv_trail.specs.Spare.{open_count};
 ghost use Rattle.hv_finals.specs.Finals.{CanName, CallsCause};
 ghost use Rattle.hv_house.specs.Faults.{StoreCause, FileCause, JournalCause};
@@ -162,6 +162,7 @@ impl<D: Shelf + Drop> House<D> {
     /// Notes the opening of a book that was read, and that what was open is lost.
     fn note_lost(&mut self, runs: u64, unended: &[u64]) -> Result<(), HouseFault>
         requires running { self.old.trail.closed ≡ false }
+        requires fed { self.old.trail.starved ≡ false }
         requires near { self.old.place ≤ 2 ^ 62 }
         requires place { self.old.place ≡ place_of (entries_of self.old) }
         requires journal { Tells (D.told self.old.shelf)
@@ -191,6 +192,7 @@ impl<D: Shelf + Drop> House<D> {
         whole: &[u64],
     ) -> Result<(), BootFault>
         requires running { self.old.trail.closed ≡ false }
+        requires fed { self.old.trail.starved ≡ false }
         requires near { self.old.place ≤ 2 ^ 62 }
         requires place { self.old.place ≡ place_of (entries_of self.old) }
         requires journal { Tells (D.told self.old.shelf)

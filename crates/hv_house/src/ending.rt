@@ -131,7 +131,8 @@ impl<D: Shelf + Drop> House<D> {
         requires kept { IsKept D.told self.old }
         requires fit { AllFit self.old.limits nothing_yet (entries_of self.old) }
         requires room { length (entries_of self.old)
-            + length (end_entries whole.now (state_of (entries_of self.old)) number (numbered (state_of (entries_of self.old)).jobs number)) ≤ book_limit }
+            + length (end_entries whole.now (state_of (entries_of self.old)) number
+            (numbered (state_of (entries_of self.old)).jobs number)) ≤ book_limit }
         ensures step { EndStep D.told D.faults D.hard
             (EndBegins whole.now (state_of (entries_of self.old)) number
             (numbered (state_of (entries_of self.old)).jobs number))

@@ -24,10 +24,17 @@ impl<D: Shelf + Drop> Housed<D> for House<D> {
 }
 
 impl<D: Shelf> House<D> {
-    /// Whether the journal failed. A closed house answers so to every call, and nothing of it changes.
+    /// Whether the journal failed, or memory lacked in a publication. A closed house answers so to every call, and nothing of it changes.
     pub fn is_closed(&self) -> bool
         ensures closed { result ≡ self.now.trail.closed }
     {
         self.trail.is_closed()
+    }
+
+    /// Whether it is closed for want of memory: directories got their names, and the journal wasn't told.
+    pub fn is_starved(&self) -> bool
+        ensures starved { result ≡ self.now.trail.starved }
+    {
+        self.trail.is_starved()
     }
 }

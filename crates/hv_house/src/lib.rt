@@ -1,6 +1,7 @@
 //! The warehouse over one store: its journal, its book, and its files, whatever transactions are open.
 #![tactic(auto)]
 
+pub use hv_finals;
 pub use hv_law_read;
 pub use hv_recovery;
 pub use hv_table_rows;
@@ -19,10 +20,15 @@ mod laws;
 mod listing;
 mod noting;
 mod opening;
+mod publishing;
+mod reading;
+mod removing;
+mod renaming;
 
 pub use boot::BootFault;
 pub use calls::EntryFault;
 pub use fault::HouseFault;
 pub use house::House;
 pub use laws::who_waits_can_start;
-pub use listing::{GetFault, ListFault, Listing};
+pub use listing::{GetFault, ListFault, Listing, take_of};
+pub use publishing::PublishFault;

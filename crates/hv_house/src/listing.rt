@@ -8,7 +8,7 @@ ghost use Rattle.hv_shelf.specs.Disk.{places_of};
 ghost use Rattle.hv_rowfile.specs.declared.record.Rec.{Rec};
 ghost use Rattle.hv_history.specs.State.{state_of};
 ghost use Rattle.hv_stands.specs.Reading.{table_of_name};
-ghost use Rattle.hv_law_made.specs.Standing.{IsEncodingOf};
+ghost use Rattle.hv_finals.specs.hv_law_made.specs.Standing.{IsEncodingOf};
 ghost use Rattle.hv_trail.specs.declared.trail.Reader.TheVariants.{Txn};
 ghost use Rattle.hv_trail.specs.Steps.{Step};
 ghost use Rattle.hv_trail.specs.Steps as calls;
@@ -71,9 +71,10 @@ pub enum GetFault {
 }
 
 /// Of the files at these places, those that a reader takes under its list.
-fn take_of(alloc: Global, list: WriteIdList, places: Vec<Place>) -> Result<Listing, NoMemory>
+pub fn take_of(alloc: Global, list: WriteIdList, places: Vec<Place>) -> Result<Listing, NoMemory>
     ensures list { IfOk result (λ listing. listing.list ≡ list) }
-    ensures files { IfOk result (λ listing. AreTakenOf places.items listing.list listing.inserts.items listing.deletes.items) }
+    ensures files { IfOk result (λ listing. AreTakenOf places.items listing.list listing.inserts.items
+        listing.deletes.items) }
 {
     let files = list_files(alloc, places)?;
     let taken = take_files(alloc, &list, &files)?;
@@ -85,27 +86,27 @@ fn take_of(alloc: Global, list: WriteIdList, places: Vec<Place>) -> Result<Listi
 }
 
 impl<D: Shelf> House<D> {
-    /// What a fault of the store is for a reader.
-    fn fail_get(&mut self, by: Reader, fault: ShelfFault) -> HouseFault
+    /// What a fault of the store is for a reader, or for nobody.
+    fn fail_get(&mut self, by: Option<Reader>, fault: ShelfFault) -> HouseFault
         requires running { self.old.trail.closed ≡ false }
         requires room { 0 < self.old.trail.room }
         ensures fault { result ≡ house_fault (D.faults self.old.shelf) fault }
         ensures shelf { self.new.shelf ≡ self.old.shelf }
-        ensures gains { GainsBy (calls.Read (Some by)) (fault_outcome result) self.old self.new }
+        ensures gains { GainsBy (calls.Read by) (fault_outcome result) self.old self.new }
         ensures last { ShutsAtLast (fault ≡ shelf_fault.Failed) (D.faults self.old.shelf)
             self.old.trail.closed self.new.trail.closed }
     {
         match fault {
-            ShelfFault::Failed => self.fail(Some(by), false),
+            ShelfFault::Failed => self.fail(by, false),
             ShelfFault::NoMemory => HouseFault::NoMemory,
         }
     }
 
     /// The places of a table's files, rising.
-    fn places(
+    pub(crate) fn places(
         &mut self,
         alloc: Global,
-        by: Reader,
+        by: Option<Reader>,
         table: TableId,
     ) -> Result<Vec<Place>, HouseFault>
         ghost limits: { Limits }
@@ -124,10 +125,10 @@ impl<D: Shelf> House<D> {
     }
 
     /// The bytes of the file at a place, where one stands there.
-    fn file_at(
+    pub(crate) fn file_at(
         &mut self,
         alloc: Global,
-        by: Reader,
+        by: Option<Reader>,
         place: &Place,
     ) -> Result<Option<Vec<u8>>, HouseFault>
         ghost limits: { Limits }
@@ -159,12 +160,12 @@ impl<D: Shelf> House<D> {
             listing.list ≡ ids_in (state_of (take place (entries_of self.old))) table.0) }
         ensures files { IfOk result (λ listing. Tells (D.told self.old.shelf)
             (λ s. AreTaken table listing.list s.tree listing.inserts.items listing.deletes.items)) }
-        ensures read { ReadStep D.told D.faults (Txn by) self.old self.new result }
+        ensures read { ReadStep D.told D.faults (Some (Txn by)) self.old self.new result }
         ensures hard { HardStep (D.hard self.old.shelf) (D.hard self.new.shelf)
             self.old.trail.closed self.new.trail.closed }
     {
         let list = list_at(alloc, self.trail.book(), place as usize, table)?;
-        let places = self.places(alloc, Reader::Txn(by), table)?;
+        let places = self.places(alloc, Some(Reader::Txn(by)), table)?;
         Ok(take_of(alloc, list, places)?)
     }
 
@@ -259,7 +260,7 @@ impl<D: Shelf> House<D> {
     {
         match ended_at(self.trail.book(), by) {
             Some(at) => Err(GetFault::NotOpen { at }),
-            None => match self.file_at(alloc, Reader::Txn(by), place) {
+            None => match self.file_at(alloc, Some(Reader::Txn(by)), place) {
                 Ok(Some(bytes)) => Ok(bytes),
                 Ok(None) => Err(GetFault::NotFound),
                 Err(why) => Err(GetFault::House(why)),

@@ -1,21 +1,23 @@
 -- When a job may be asked for.
 use Rattle.std.proofs.Common.{◌≡◌, ◌⊎◌, inl, inr, ℕ, ◌+◌, Option, Some, None, List, length, refl, sym, ap, ◌∙◌}
 use Rattle.std.specs.Prelude.{Bool, true, false, not, nat_eq, ◌==◌, ◌&&◌, ◌||◌, ◌↔◌, IsTrue, IsSomeAnd}
+use Rattle.std.specs.Option.{option_map}
 use Rattle.std.specs.Cmp.Lexicographic.{pointwise}
 use Rattle.std.proofs.lemmas.Bool.{eq-eqb, eqb-true}
 use Rattle.hv_base.specs.declared.ids.Limits.{Limits}
 use Rattle.hv_ast.specs.declared.statement.Stmt.{Stmt}
 use Rattle.hv_ast.specs.declared.statement.Stmt.TheVariants as stmt
-use Rattle.hv_history.specs.declared.entry.JobKind.{JobKind}
-use Rattle.hv_history.specs.declared.state.Table.{Table}
-use Rattle.hv_history.specs.declared.state.Transaction.{Transaction}
-use Rattle.hv_history.specs.State.{State, numbered, opening_tree}
-use Rattle.hv_history.specs.Legal.{HasRoom, IsRunning, Of}
-use Rattle.hv_history.specs.Jobs.{has_busy, is_live_one}
-use Rattle.hv_history.specs.JobsFit.{name_in, is_of_kind, asks_to_compact, IsAsker, AskedFits}
-use Rattle.hv_book.specs.Briefs.{tree_in}
-use Rattle.hv_book.specs.Names.{name_in as named_in}
-use Rattle.hv_meta.proofs.FactLemmas.{and-left, and-right, and-both, false-is}
+use Rattle.hv_queue.specs.hv_history.specs.declared.entry.JobKind.{JobKind}
+use Rattle.hv_queue.specs.hv_history.specs.declared.state.Table.{Table}
+use Rattle.hv_queue.specs.hv_history.specs.declared.state.Transaction.{Transaction}
+use Rattle.hv_queue.specs.hv_history.specs.State.{State, numbered, opening_tree}
+use Rattle.hv_queue.specs.hv_history.specs.Legal.{HasRoom, IsRunning, Of}
+use Rattle.hv_queue.specs.hv_history.specs.Jobs.{has_busy, is_live_one}
+use Rattle.hv_queue.specs.hv_history.specs.JobsFit.{name_in, is_of_kind, asks_to_compact, IsAsker, AskedFits}
+use Rattle.hv_queue.specs.hv_tallies.specs.hv_earlier.specs.hv_meta.specs.hv_book.specs.Briefs.{tree_in}
+use Rattle.hv_queue.specs.hv_tallies.specs.hv_earlier.specs.hv_meta.specs.hv_book.specs.Names.{name_in as named_in}
+use Rattle.hv_queue.specs.hv_tallies.specs.hv_earlier.specs.hv_meta.specs.hv_book.specs.Said.{said}
+use Rattle.hv_queue.specs.hv_tallies.specs.hv_earlier.specs.hv_meta.proofs.FactLemmas.{and-left, and-right, and-both, false-is}
 use Rattle.hv_job_fits.specs.Notes.{compacts}
 
 -- ---- a test that is equal to another one
@@ -36,6 +38,12 @@ compacts-are tables table kind (Some (stmt.Compact compact)) =
     ap (λ name. pointwise nat_eq name compact.table && is_of_kind kind compact.kind) (names-same (numbered tables table))
 compacts-are tables table kind (Some other) = refl
 
+-- what is kept of a text asks for the same
+asks-said : (name : List ℕ) (kind : JobKind) (tree : Option Stmt) → asks_to_compact name kind (option_map said tree) ≡ asks_to_compact name kind tree
+asks-said name kind None = refl
+asks-said name kind (Some (stmt.Insert insert)) = refl
+asks-said name kind (Some tree) = refl
+
 module _ (state : State) (table : ℕ) (kind : JobKind) where
   abbrev name : List ℕ
   name = name_in (numbered state.tables table)
@@ -45,7 +53,7 @@ module _ (state : State) (table : ℕ) (kind : JobKind) where
   asker-in None tree is r a running asks = (λ e. running.0 (and-left r a e), λ h. absurd h)
   asker-in (Some t) tree is r a running asks =
       let same : a ≡ asks_to_compact name kind (opening_tree t) =
-      asks ∙ compacts-are state.tables table kind tree ∙ ap (asks_to_compact name kind) is
+      asks ∙ compacts-are state.tables table kind tree ∙ ap (asks_to_compact name kind) is ∙ asks-said name kind (opening_tree t)
       in (
         λ e. record { running = running.0 (and-left r a e); asks = sym same ∙ and-right r a e },
         λ h. and-both r a (running.1 h.running) (same ∙ h.asks),

@@ -6,25 +6,25 @@ use Rattle.std.specs.List.{slice_get, list_any, AllByRecursion}
 use Rattle.std.proofs.lemmas.Bool.{eq-eqb, ne_eqb, lt-ltb}
 use Rattle.std.proofs.lemmas.List.{take_all}
 use Rattle.hv_base.specs.declared.ids.Limits.{Limits}
-use Rattle.hv_history.specs.declared.entry.Entry.{Entry}
-use Rattle.hv_history.specs.declared.state.Table.{Table}
-use Rattle.hv_history.specs.declared.state.Transaction.{Transaction}
-use Rattle.hv_history.specs.declared.state.Ending.{Ending}
-use Rattle.hv_history.specs.declared.state.Ending.TheVariants.{Committed, Aborted, Made, Dropped}
-use Rattle.hv_history.specs.State.{State, state_of, numbered}
-use Rattle.hv_history.specs.Legal.{HasRoom}
-use Rattle.hv_history.specs.Jobs.{is_live_one}
-use Rattle.hv_history.specs.JobsFit.{is_aborted_by, is_aborted_one, is_aborted_id, ForgotFits}
+use Rattle.hv_queue.specs.hv_history.specs.declared.entry.Entry.{Entry}
+use Rattle.hv_queue.specs.hv_history.specs.declared.state.Table.{Table}
+use Rattle.hv_queue.specs.hv_history.specs.declared.state.Transaction.{Transaction}
+use Rattle.hv_queue.specs.hv_history.specs.declared.state.Ending.{Ending}
+use Rattle.hv_queue.specs.hv_history.specs.declared.state.Ending.TheVariants.{Committed, Aborted, Made, Dropped}
+use Rattle.hv_queue.specs.hv_history.specs.State.{State, state_of, numbered}
+use Rattle.hv_queue.specs.hv_history.specs.Legal.{HasRoom}
+use Rattle.hv_queue.specs.hv_history.specs.Jobs.{is_live_one}
+use Rattle.hv_queue.specs.hv_history.specs.JobsFit.{is_aborted_by, is_aborted_one, is_aborted_id, ForgotFits}
 use Rattle.hv_ids.specs.declared.notes.IdNote.{IdNote}
 use Rattle.hv_ids.specs.declared.notes.PlacedId.{PlacedId}
 use Rattle.hv_ids.specs.Ids.{is_in}
-use Rattle.hv_book.specs.declared.past.ForgotNote.{ForgotNote}
-use Rattle.hv_book.specs.Briefs.{brief, end_of}
-use Rattle.hv_book.specs.Past.{Past, IsPast, IsSettled, HasCommitted, owners_in, forgotten_in, forgot_then, forgot_id, total, total_from, only_if, weight_in, ended_weight}
-use Rattle.hv_book.proofs.TextLaws.{numbered-map}
-use Rattle.hv_meta.proofs.FactLemmas.{and-left, and-right, and-both, false-is}
-use Rattle.hv_tallies.specs.Walks.{id_weight}
-use Rattle.hv_tallies.proofs.WalkLemmas.{pending-total}
+use Rattle.hv_queue.specs.hv_tallies.specs.hv_earlier.specs.hv_meta.specs.hv_book.specs.declared.past.ForgotNote.{ForgotNote}
+use Rattle.hv_queue.specs.hv_tallies.specs.hv_earlier.specs.hv_meta.specs.hv_book.specs.Briefs.{brief, end_of}
+use Rattle.hv_queue.specs.hv_tallies.specs.hv_earlier.specs.hv_meta.specs.hv_book.specs.Past.{Past, IsPast, IsSettled, HasCommitted, owners_in, forgotten_in, forgot_then, forgot_id, total, total_from, only_if, weight_in, ended_weight}
+use Rattle.hv_queue.specs.hv_tallies.specs.hv_earlier.specs.hv_meta.specs.hv_book.proofs.TextLaws.{numbered-map}
+use Rattle.hv_queue.specs.hv_tallies.specs.hv_earlier.specs.hv_meta.proofs.FactLemmas.{and-left, and-right, and-both, false-is}
+use Rattle.hv_queue.specs.hv_tallies.specs.Walks.{id_weight}
+use Rattle.hv_queue.specs.hv_tallies.proofs.WalkLemmas.{pending-total}
 use Rattle.hv_job_fits.specs.Notes.{is_aborted_end, is_aborted_note, is_lost_in, lost_weight, is_forgot}
 
 -- ---- a transaction's note

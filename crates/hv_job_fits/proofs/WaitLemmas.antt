@@ -4,13 +4,13 @@ use Rattle.std.specs.Prelude.{if◌then◌else◌, Bool, true, false, ◌==◌, 
 use Rattle.std.specs.Option.{option_map}
 use Rattle.std.proofs.lemmas.Bool.{eq-eqb, eqb-true}
 use Rattle.hv_base.specs.declared.ids.Limits.{Limits}
-use Rattle.hv_history.specs.State.{State, Job, numbered}
-use Rattle.hv_history.specs.Legal.{HasRoom}
-use Rattle.hv_history.specs.Jobs.{is_initiated, watermark}
-use Rattle.hv_history.specs.JobsFit.{OfJob, is_live_job, first_initiated, PickedFits}
-use Rattle.hv_book.specs.declared.jobs.JobNote.{JobNote}
-use Rattle.hv_book.specs.Briefs.{brief_job}
-use Rattle.hv_meta.proofs.FactLemmas.{and-left, and-right, and-both}
+use Rattle.hv_queue.specs.hv_history.specs.State.{State, Job, numbered}
+use Rattle.hv_queue.specs.hv_history.specs.Legal.{HasRoom}
+use Rattle.hv_queue.specs.hv_history.specs.Jobs.{is_initiated, watermark}
+use Rattle.hv_queue.specs.hv_history.specs.JobsFit.{OfJob, is_live_job, first_initiated, PickedFits}
+use Rattle.hv_queue.specs.hv_tallies.specs.hv_earlier.specs.hv_meta.specs.hv_book.specs.declared.jobs.JobNote.{JobNote}
+use Rattle.hv_queue.specs.hv_tallies.specs.hv_earlier.specs.hv_meta.specs.hv_book.specs.Briefs.{brief_job}
+use Rattle.hv_queue.specs.hv_tallies.specs.hv_earlier.specs.hv_meta.proofs.FactLemmas.{and-left, and-right, and-both}
 use Rattle.hv_job_fits.specs.Notes.{is_lowest}
 
 -- ---- what is kept of the one job

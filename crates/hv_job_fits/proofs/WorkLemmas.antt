@@ -4,19 +4,19 @@ use Rattle.std.specs.Prelude.{if◌then◌else◌, Bool, true, false, not, is_no
 use Rattle.std.specs.Option.{option_map}
 use Rattle.std.proofs.lemmas.Bool.{eq-eqb, eqb-true, lt-leb, le-leb, ltb-true, ltb-false}
 use Rattle.hv_base.specs.declared.ids.Limits.{Limits}
-use Rattle.hv_history.specs.declared.entry.JobCause.{JobCause}
-use Rattle.hv_history.specs.declared.state.Transaction.{Transaction}
-use Rattle.hv_history.specs.State.{State, Job, numbered}
-use Rattle.hv_history.specs.Legal.{HasRoom, is_open, is_working}
-use Rattle.hv_history.specs.Jobs.{Pieces, first_open, if_below, is_past_by, is_ready, is_live_one, is_empty_of, pieces_for}
-use Rattle.hv_history.specs.JobsFit.{OfJob, is_live_job, is_gone_cause, JobCauseFits, PublishedFits, EmptyFits, FailedFits, CleanedFits}
-use Rattle.hv_book.specs.declared.jobs.JobNote.{JobNote}
-use Rattle.hv_book.specs.Jobs.{is_working_note}
-use Rattle.hv_book.specs.Briefs.{brief, brief_job, brief_range, end_of, open_from, open_next}
-use Rattle.hv_book.proofs.LoadLaws.{working-same}
+use Rattle.hv_queue.specs.hv_history.specs.declared.entry.JobCause.{JobCause}
+use Rattle.hv_queue.specs.hv_history.specs.declared.state.Transaction.{Transaction}
+use Rattle.hv_queue.specs.hv_history.specs.State.{State, Job, numbered}
+use Rattle.hv_queue.specs.hv_history.specs.Legal.{HasRoom, is_open, is_working}
+use Rattle.hv_queue.specs.hv_history.specs.Jobs.{Pieces, first_open, if_below, is_past_by, is_ready, is_live_one, is_empty_of, pieces_for}
+use Rattle.hv_queue.specs.hv_history.specs.JobsFit.{OfJob, is_live_job, is_gone_cause, JobCauseFits, PublishedFits, EmptyFits, FailedFits, CleanedFits}
+use Rattle.hv_queue.specs.hv_tallies.specs.hv_earlier.specs.hv_meta.specs.hv_book.specs.declared.jobs.JobNote.{JobNote}
+use Rattle.hv_queue.specs.hv_tallies.specs.hv_earlier.specs.hv_meta.specs.hv_book.specs.Jobs.{is_working_note}
+use Rattle.hv_queue.specs.hv_tallies.specs.hv_earlier.specs.hv_meta.specs.hv_book.specs.Briefs.{brief, brief_job, brief_range, end_of, open_from, open_next}
+use Rattle.hv_queue.specs.hv_tallies.specs.hv_earlier.specs.hv_meta.specs.hv_book.proofs.LoadLaws.{working-same}
 use Rattle.hv_queue.specs.declared.queue.JobPieces.{JobPieces}
 use Rattle.hv_queue.specs.Queue.{pieces_in}
-use Rattle.hv_meta.proofs.FactLemmas.{and-left, and-right, and-both, false-is}
+use Rattle.hv_queue.specs.hv_tallies.specs.hv_earlier.specs.hv_meta.proofs.FactLemmas.{and-left, and-right, and-both, false-is}
 use Rattle.hv_job_fits.specs.Notes.{is_ready_note, is_past_mark, is_past_note}
 use Rattle.hv_job_fits.proofs.WaitLemmas.{note-is, no-note}
 

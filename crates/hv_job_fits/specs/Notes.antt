@@ -4,21 +4,21 @@ use Rattle.std.specs.List.{slice_get}
 use Rattle.std.specs.Cmp.Lexicographic.{pointwise}
 use Rattle.hv_ast.specs.declared.statement.Stmt.{Stmt}
 use Rattle.hv_ast.specs.declared.statement.Stmt.TheVariants as stmt
-use Rattle.hv_history.specs.declared.entry.JobKind.{JobKind}
-use Rattle.hv_history.specs.declared.state.Table.{Table}
-use Rattle.hv_history.specs.declared.state.Transaction.{Transaction}
-use Rattle.hv_history.specs.State.{State, numbered}
-use Rattle.hv_history.specs.Jobs.{is_live_one}
-use Rattle.hv_history.specs.JobsFit.{is_of_kind, is_aborted_one}
+use Rattle.hv_queue.specs.hv_history.specs.declared.entry.JobKind.{JobKind}
+use Rattle.hv_queue.specs.hv_history.specs.declared.state.Table.{Table}
+use Rattle.hv_queue.specs.hv_history.specs.declared.state.Transaction.{Transaction}
+use Rattle.hv_queue.specs.hv_history.specs.State.{State, numbered}
+use Rattle.hv_queue.specs.hv_history.specs.Jobs.{is_live_one}
+use Rattle.hv_queue.specs.hv_history.specs.JobsFit.{is_of_kind, is_aborted_one}
 use Rattle.hv_ids.specs.declared.notes.IdNote.{IdNote}
-use Rattle.hv_book.specs.declared.jobs.JobNote.{JobNote}
-use Rattle.hv_book.specs.declared.jobs.JobRange.{JobRange}
-use Rattle.hv_book.specs.declared.notes.End.{End}
-use Rattle.hv_book.specs.declared.notes.TransactionNote.{TransactionNote}
-use Rattle.hv_book.specs.declared.past.ForgotNote.{ForgotNote}
-use Rattle.hv_book.specs.Briefs.{brief, open_from}
-use Rattle.hv_book.specs.Names.{name_at}
-use Rattle.hv_book.specs.Past.{only_if, forgot_then}
+use Rattle.hv_queue.specs.hv_tallies.specs.hv_earlier.specs.hv_meta.specs.hv_book.specs.declared.jobs.JobNote.{JobNote}
+use Rattle.hv_queue.specs.hv_tallies.specs.hv_earlier.specs.hv_meta.specs.hv_book.specs.declared.jobs.JobRange.{JobRange}
+use Rattle.hv_queue.specs.hv_tallies.specs.hv_earlier.specs.hv_meta.specs.hv_book.specs.declared.notes.End.{End}
+use Rattle.hv_queue.specs.hv_tallies.specs.hv_earlier.specs.hv_meta.specs.hv_book.specs.declared.notes.TransactionNote.{TransactionNote}
+use Rattle.hv_queue.specs.hv_tallies.specs.hv_earlier.specs.hv_meta.specs.hv_book.specs.declared.past.ForgotNote.{ForgotNote}
+use Rattle.hv_queue.specs.hv_tallies.specs.hv_earlier.specs.hv_meta.specs.hv_book.specs.Briefs.{brief, open_from}
+use Rattle.hv_queue.specs.hv_tallies.specs.hv_earlier.specs.hv_meta.specs.hv_book.specs.Names.{name_at}
+use Rattle.hv_queue.specs.hv_tallies.specs.hv_earlier.specs.hv_meta.specs.hv_book.specs.Past.{only_if, forgot_then}
 
 -- ---- asking
 

@@ -1,18 +1,18 @@
 ghost use Rattle.std.specs.Prelude.{◌≡◌, ◌⊎◌, ◌↔◌, IsTrue};
 ghost use Rattle.std.specs.Option.{option_copied};
-ghost use Rattle.hv_history.specs.State.{state_of, numbered};
-ghost use Rattle.hv_history.specs.Legal.{Of};
-ghost use Rattle.hv_history.specs.JobsFit.{is_of_kind, name_in, IsAsker, AskedFits};
+ghost use Rattle.hv_queue.specs.hv_history.specs.State.{state_of, numbered};
+ghost use Rattle.hv_queue.specs.hv_history.specs.Legal.{Of};
+ghost use Rattle.hv_queue.specs.hv_history.specs.JobsFit.{is_of_kind, name_in, IsAsker, AskedFits};
 ghost use Rattle.hv_job_fits.specs.Notes.{compacts};
 
 use crate::notes::next_job;
 use hv_ast::{CompactionKind, Stmt};
 use hv_base::{JobId, Limits, TableId, Text, TxnId};
-use hv_book::Book;
-use hv_history::JobKind;
-use hv_meta::{has_room, is_running};
+use hv_queue::hv_history::JobKind;
+use hv_queue::hv_tallies::hv_earlier::hv_meta::hv_book::Book;
+use hv_queue::hv_tallies::hv_earlier::hv_meta::{has_room, is_running};
+use hv_queue::hv_tallies::{both, either, survey_in};
 use hv_queue::is_live;
-use hv_tallies::{both, either, survey_in};
 
 fn is_of_kind(kind: JobKind, asked: CompactionKind) -> bool
     ensures { result ≡ is_of_kind kind asked }

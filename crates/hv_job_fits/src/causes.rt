@@ -1,10 +1,10 @@
 ghost use Rattle.std.specs.Prelude.{◌≡◌, ◌↔◌, ◌==◌, IsTrue, not, if◌then◌else◌};
 ghost use Rattle.std.specs.List.{list_any};
-ghost use Rattle.hv_history.specs.State.{state_of};
-ghost use Rattle.hv_history.specs.JobsFit.{JobCauseFits, is_gone_cause};
+ghost use Rattle.hv_queue.specs.hv_history.specs.State.{state_of};
+ghost use Rattle.hv_queue.specs.hv_history.specs.JobsFit.{JobCauseFits, is_gone_cause};
 
-use hv_book::Book;
-use hv_history::JobCause;
+use hv_queue::hv_history::JobCause;
+use hv_queue::hv_tallies::hv_earlier::hv_meta::hv_book::Book;
 
 fn is_kept(kept: &[u64], count: u64) -> bool
     ensures { result ≡ list_any (λ other. other == count) kept.now }

@@ -1,18 +1,18 @@
 ghost use Rattle.std.specs.Prelude.{◌≡◌, ◌↔◌, IsTrue, IsSomeAnd, nat_lt};
 ghost use Rattle.std.specs.List.{list_any};
-ghost use Rattle.hv_history.specs.State.{state_of, numbered};
-ghost use Rattle.hv_history.specs.JobsFit.{is_aborted_one, ForgotFits};
-ghost use Rattle.hv_book.specs.Past.{total, ended_weight};
+ghost use Rattle.hv_queue.specs.hv_history.specs.State.{state_of, numbered};
+ghost use Rattle.hv_queue.specs.hv_history.specs.JobsFit.{is_aborted_one, ForgotFits};
+ghost use Rattle.hv_queue.specs.hv_tallies.specs.hv_earlier.specs.hv_meta.specs.hv_book.specs.Past.{total, ended_weight};
 ghost use Rattle.hv_job_fits.specs.Notes.{is_aborted_note, is_lost, lost_weight, is_lost_in, is_forgot};
 
 use crate::notes::entry_count;
 use hv_base::{Limits, TableId, WriteId};
-use hv_book::{Book, ForgotNote, TransactionNote};
-use hv_history::numbered;
 use hv_ids::{IdNote, PlacedIds};
-use hv_meta::has_room;
+use hv_queue::hv_history::numbered;
+use hv_queue::hv_tallies::hv_earlier::hv_meta::has_room;
+use hv_queue::hv_tallies::hv_earlier::hv_meta::hv_book::{Book, ForgotNote, TransactionNote};
+use hv_queue::hv_tallies::{both, either};
 use hv_queue::is_live;
-use hv_tallies::{both, either};
 
 fn is_aborted_note(notes: &[TransactionNote], txn: u64) -> bool
     ensures { result ≡ is_aborted_note (numbered notes.now txn) }

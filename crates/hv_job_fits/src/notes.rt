@@ -1,14 +1,14 @@
 ghost use Rattle.std.specs.Prelude.{◌≡◌, ◌+◌, length};
 ghost use Rattle.std.specs.Option.{option_map};
-ghost use Rattle.hv_history.specs.State.{state_of, numbered};
-ghost use Rattle.hv_book.specs.Jobs.{is_working_note};
-ghost use Rattle.hv_book.specs.Briefs.{brief_job};
+ghost use Rattle.hv_queue.specs.hv_history.specs.State.{state_of, numbered};
+ghost use Rattle.hv_queue.specs.hv_tallies.specs.hv_earlier.specs.hv_meta.specs.hv_book.specs.Jobs.{is_working_note};
+ghost use Rattle.hv_queue.specs.hv_tallies.specs.hv_earlier.specs.hv_meta.specs.hv_book.specs.Briefs.{brief_job};
 ghost use Rattle.hv_job_fits.specs.Notes.{is_ready_note};
 
 use hv_base::JobId;
-use hv_book::{Book, JobNote};
-use hv_history::numbered;
-use hv_tallies::both;
+use hv_queue::hv_history::numbered;
+use hv_queue::hv_tallies::both;
+use hv_queue::hv_tallies::hv_earlier::hv_meta::hv_book::{Book, JobNote};
 
 /// What is kept of the job of this number.
 pub fn job_note(book: &Book, job: JobId) -> Option<JobNote>

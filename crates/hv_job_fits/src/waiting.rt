@@ -1,14 +1,14 @@
 ghost use Rattle.std.specs.Prelude.{◌≡◌, ◌↔◌, IsTrue};
-ghost use Rattle.hv_history.specs.State.{state_of};
-ghost use Rattle.hv_history.specs.JobsFit.{OfJob, PickedFits};
+ghost use Rattle.hv_queue.specs.hv_history.specs.State.{state_of};
+ghost use Rattle.hv_queue.specs.hv_history.specs.JobsFit.{OfJob, PickedFits};
 ghost use Rattle.hv_job_fits.specs.Notes.{is_waiting, is_lowest};
 
 use crate::notes::job_note;
 use hv_base::{JobId, Limits, TableId, WriteId};
-use hv_book::{Book, JobNote};
-use hv_meta::has_room;
+use hv_queue::hv_tallies::both;
+use hv_queue::hv_tallies::hv_earlier::hv_meta::has_room;
+use hv_queue::hv_tallies::hv_earlier::hv_meta::hv_book::{Book, JobNote};
 use hv_queue::{is_live, watermark};
-use hv_tallies::both;
 
 /// Whether nobody took up the job that is noted so, and its table is live.
 fn is_waiting(book: &Book, note: &JobNote) -> bool

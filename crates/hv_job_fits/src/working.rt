@@ -1,16 +1,16 @@
 ghost use Rattle.std.specs.Prelude.{◌≡◌, ◌↔◌, IsTrue};
-ghost use Rattle.hv_history.specs.State.{state_of};
-ghost use Rattle.hv_history.specs.JobsFit.{OfJob, PublishedFits, EmptyFits, FailedFits, CleanedFits};
+ghost use Rattle.hv_queue.specs.hv_history.specs.State.{state_of};
+ghost use Rattle.hv_queue.specs.hv_history.specs.JobsFit.{OfJob, PublishedFits, EmptyFits, FailedFits, CleanedFits};
 ghost use Rattle.hv_job_fits.specs.Notes.{is_past_mark, is_past_note};
 
 use crate::causes::{is_fresh, says_gone};
 use crate::notes::{is_ready, is_working, job_note};
 use hv_base::{JobId, Limits, TxnId, WriteId};
-use hv_book::{Book, JobRange};
-use hv_history::JobCause;
-use hv_meta::{has_room, next_txn};
+use hv_queue::hv_history::JobCause;
+use hv_queue::hv_tallies::both;
+use hv_queue::hv_tallies::hv_earlier::hv_meta::hv_book::{Book, JobRange};
+use hv_queue::hv_tallies::hv_earlier::hv_meta::{has_room, next_txn};
 use hv_queue::{is_empty, is_live, pieces};
-use hv_tallies::both;
 
 /// Whether it fits the book that the job's directories stand, with that range and mark. It walks the jobs, and the table's
 /// write ids.

@@ -30,7 +30,7 @@ use Rattle.hv_law_visible.proofs.MemberLemmas.{in-left, in-right, in-either, in-
 use Rattle.hv_law_visible.proofs.ReachedLemmas.{base-is}
 use Rattle.hv_law_visible.proofs.SortingLemmas.{from-sorted}
 use Rattle.hv_law_visible.proofs.TakenLemmas.{all-in, is-taken}
-use Rattle.hv_table_rows.specs.Reading.{HoldsAt, Sheet, sheet_file, partition_in, IsSheet}
+use Rattle.hv_table_rows.specs.Reading.{HoldsAt, Sheet, sheet_file, files_wanted, partition_in, IsSheet}
 use Rattle.hv_table_rows.proofs.Names.{text-same}
 use Rattle.hv_choosing.proofs.Texts.{one}
 use Rattle.hv_table_rows.proofs.Names as names
@@ -190,8 +190,11 @@ module _ (info : TableInfo) (list : WriteIds) (partition : List ℕ) (files : di
 
   -- ---- and their records
 
-  module _ (read : Reading) (reads : IsReading read) (kind : Bool) (sheets : List Sheet) (are : map sheet_file sheets ≡ files_taken kind list named)
-      (each : AllByRecursion (IsSheet kind files) sheets) where
+  module _ (wants : List ℕ → Bool) (wanted : wants partition ≡ true) (read : Reading) (reads : IsReading read) (kind : Bool) (sheets : List Sheet)
+      (are : map sheet_file sheets ≡ files_wanted wants (files_taken kind list named)) (each : AllByRecursion (IsSheet kind files) sheets) where
+    abbrev is_wanted : DirFile → Bool
+    is_wanted file = wants file.place.partition
+
     pub record IsRecOf (r : Rec) : Type 0 where
       pub name : DirName
       pub is_chosen : IsChosenName kind name
@@ -201,7 +204,8 @@ module _ (info : TableInfo) (list : WriteIds) (partition : List ℕ) (files : di
     sheet-rec sheet h here r g =
         let file : DirFile = sheet.file in
         let held = all-in (IsSheet kind files) sheets sheet each h in
-        let taken = taken-here kind file (subst (IsIn file) are (in-map sheet_file sheet sheets h)) here in
+        let of_kind = from-filter is_wanted file (files_taken kind list named) (subst (IsIn file) are (in-map sheet_file sheet sheets h)) in
+        let taken = taken-here kind file of_kind.0 here in
         let kept = from-filter (is_of partition) file named taken.0 in
         let text = in-any (λ text. is_eq (slice_cmp nat_cmp text file.place.dir)) (chosen_texts kind (sight_of list) (names_in partition named)) taken.1 in
         let n = text-in kind text.0 text.1 in
@@ -229,7 +233,8 @@ module _ (info : TableInfo) (list : WriteIds) (partition : List ℕ) (files : di
         let at = from-recs read kind files (dir_of info partition n) r h in
         let there = there-taken kind n is at.place at.bytes at.within.table_is at.within.partition_is at.within.dir_is at.is in
         let file : DirFile = record { place = at.place; dir = there.dir } in
-        let sheet = from-map sheet_file file sheets (subst (IsIn file) (sym are) there.taken) in
+        let sheet = from-map sheet_file file sheets
+        (subst (IsIn file) (sym are) (in-filter is_wanted file (files_taken kind list named) there.taken (ap wants at.within.partition_is ∙ wanted))) in
         let held = all-in (IsSheet kind files) sheets sheet.0 each sheet.1 in
         let place_is : sheet.0.file.place ≡ at.place = ap (λ (f : DirFile). f.place) sheet.2 in
         let recs_are : read kind at.place.bucket at.bytes ≡ sheet.0.recs =

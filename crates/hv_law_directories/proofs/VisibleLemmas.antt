@@ -55,7 +55,7 @@ module _ (list : WriteIds) (shape : Shape) (part : List ℕ) where
     pub valid : is_valid list found.id.write.0 ≡ true
     pub it : IsIn found (inserted_by shape part r)
 
-  found-from : (found : Found) (r : Rec) → IsIn found (found_with list part (partition_values shape.parts part) r) → IsInserted found r
+  pub found-from : (found : Found) (r : Rec) → IsIn found (found_with list part (partition_values shape.parts part) r) → IsInserted found r
   found-from found (Delete id at) h = absurd h
   found-from found (Insert id row) h = by (is_valid list id.write.0) refl h
     where
@@ -155,7 +155,8 @@ rise-by-id partition (x ∷ rows) here up = (
 
 -- ---- the rows of a table under a list
 
-module _ (read : Reading) (info : TableInfo) (list : WriteIds) (partition : List ℕ) (files : disk.Tree) (rows : List Found) (reads : IsReading read) (are : AreRows info list files rows) where
+module _ (read : Reading) (wants : List ℕ → Bool) (info : TableInfo) (list : WriteIds) (partition : List ℕ) (files : disk.Tree) (rows : List Found) (reads : IsReading read)
+    (are : AreRows wants info list files rows) (wanted : wants partition ≡ true) where
   abbrev tree : Tree Found
   tree = directories_in read info partition files are.named
 
@@ -215,7 +216,7 @@ module _ (read : Reading) (info : TableInfo) (list : WriteIds) (partition : List
       let r = from-flat (found_with list part (partition_values info.shape.parts part)) found sheet.recs at.2 in
       let inserted = found-from list info.shape part found r.0 r.2 in
       let same : part ≡ partition = sym inserted.here ∙ here in
-      let of = sheet-rec info list partition files are.named are.listed read reads false sheets are.inserts.files_are are.inserts.each sheet at.1 same r.0 r.1 in (
+      let of = sheet-rec info list partition files are.named are.listed wants wanted read reads false sheets are.inserts.files_are are.inserts.each sheet at.1 same r.0 r.1 in (
         by-held found (
           of.name,
           of.is_chosen,
@@ -230,7 +231,7 @@ module _ (read : Reading) (info : TableInfo) (list : WriteIds) (partition : List
       let sheets = are.inserts.sheets in
       let held = held-by found h in
       let r = from-flat (inserted_by info.shape partition) found (recs_in read false files (dir_of info partition held.0)) held.2 in
-      let of = rec-sheet info list partition files are.named are.listed read reads false sheets are.inserts.files_are are.inserts.each held.0 held.1 r.0 r.1 in
+      let of = rec-sheet info list partition files are.named are.listed wants wanted read reads false sheets are.inserts.files_are are.inserts.each held.0 held.1 r.0 r.1 in
       let sheet : Sheet = of.sheet in
       let again = subst (λ p. IsIn found (found_with list p (partition_values info.shape.parts p) r.0)) (sym of.here)
       (found-to list info.shape partition found r.0 r.2 valid) in (
@@ -253,7 +254,7 @@ module _ (read : Reading) (info : TableInfo) (list : WriteIds) (partition : List
       let r = from-flat (deleted_with list part) row.0 sheet.recs at.2 in
       let deleted = deleted-from list info.shape part row.0 r.0 r.2 in
       let same : part ≡ partition = sym deleted.here ∙ tie.0 ∙ here in
-      let of = sheet-rec info list partition files are.named are.listed read reads true sheets are.deletes.files_are are.deletes.each sheet at.1 same r.0 r.1 in
+      let of = sheet-rec info list partition files are.named are.listed wants wanted read reads true sheets are.deletes.files_are are.deletes.each sheet at.1 same r.0 r.1 in
       let among = by-deleted (row.0.id, deleted.writer)
       (of.name, of.is_chosen, in-flat deleted_by r.0 (row.0.id, deleted.writer) (recs_in read true files (dir_of info partition of.name)) of.among deleted.it) in
       any-in (names_it sight found.id) (row.0.id, deleted.writer) (deletes_read sight tree) among
@@ -265,7 +266,7 @@ module _ (read : Reading) (info : TableInfo) (list : WriteIds) (partition : List
       → tables.is_gone are.gone (at_of found) ≡ true
   record-gone found here deleted valid same_row n is r among it =
       let sheets = are.deletes.sheets in
-      let of = rec-sheet info list partition files are.named are.listed read reads true sheets are.deletes.files_are are.deletes.each n is r among in
+      let of = rec-sheet info list partition files are.named are.listed wants wanted read reads true sheets are.deletes.files_are are.deletes.each n is r among in
       let sheet : Sheet = of.sheet in
       let part_is : partition ≡ partition_in sheet = sym of.here in
       let row_is : partition ≡ found.partition = sym here in
@@ -318,4 +319,4 @@ module _ (read : Reading) (info : TableInfo) (list : WriteIds) (partition : List
   }
 
 pub rows-visible : RowsAreVisible
-rows-visible read info list partition files rows reads are = visible-once read info list partition files rows reads are
+rows-visible read wants info list partition files rows reads are wanted = visible-once read wants info list partition files rows reads are wanted

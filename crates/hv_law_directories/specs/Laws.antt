@@ -1,5 +1,5 @@
 -- The directories of any files, and what is read of a table by those that are chosen. That those of a book stand is said by hv_law_whole.
-use Rattle.std.specs.Prelude.{ℕ, List}
+use Rattle.std.specs.Prelude.{true, Bool, ◌≡◌, ℕ, List}
 use Rattle.hv_shelf.specs.Disk as disk
 use Rattle.hv_shelf.specs.Disk.{places_of}
 use Rattle.hv_logic.specs.declared.catalog.TableInfo.{TableInfo}
@@ -31,10 +31,10 @@ ThereAreDirectories =
 
 -- ---- what is read of a table
 
--- Of any files: where those that are chosen in a table under a list of write ids can be read, the rows that they come to are, partition by partition,
--- those that its directories show, in their order, one of those of one identifier.
+-- Of any files: where those that are chosen in the wanted partitions of a table under a list of write ids can be read, the rows that they come to
+-- are, in each of these partitions, those that its directories show, in their order, one of those of one identifier.
 abbrev pub RowsAreVisible : Type 0
 RowsAreVisible =
-    (read : Reading) (info : TableInfo) (list : WriteIds) (partition : List ℕ) (files : disk.Tree) (rows : List Found) → IsReading read
-    → (are : AreRows info list files rows)
+    (read : Reading) (wants : List ℕ → Bool) (info : TableInfo) (list : WriteIds) (partition : List ℕ) (files : disk.Tree) (rows : List Found)
+    → IsReading read → (are : AreRows wants info list files rows) → wants partition ≡ true
     → AreOnce (by_id id_of) (visible_rows id_of (sight_of list) (directories_in read info partition files are.named)) (rows_of partition rows)

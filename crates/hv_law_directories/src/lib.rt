@@ -2,6 +2,8 @@
 #![tactic(auto)]
 
 pub use hv_law_partitions;
+pub use hv_stands;
+pub use hv_table_rows;
 
 mod laws;
 

@@ -12,7 +12,7 @@ use Rattle.hv_base.specs.Sorting.{sorted_by}
 use Rattle.hv_logic.specs.declared.catalog.TableInfo.{TableInfo}
 use Rattle.hv_logic.specs.declared.effect.Effect.{Effect}
 use Rattle.hv_logic.specs.declared.meaning.Meaning.{Meaning}
-use Rattle.hv_logic.specs.declared.meaning.Meaning.TheVariants.{Refused, Listing, Change, Make, Unmake, Plain, Twice, RowLimit, PartitionLimit}
+use Rattle.hv_logic.specs.declared.meaning.Meaning.TheVariants.{Refused, Listing, Change, Make, Unmake, Ask, Plain, Twice, RowLimit, PartitionLimit}
 use Rattle.hv_route.specs.Placing.{placed_cmp, runs_of}
 use Rattle.hv_route.specs.Touching.{rows_touched, touch_of, touches_of}
 use Rattle.hv_route.specs.declared.runs.Run.{Run}
@@ -340,6 +340,7 @@ module _ (deletes : Bool) (partition : List ℕ) where
       })
   meant given (Some (Make shape)) wrote is = absurd is
   meant given (Some (Unmake table)) wrote is = absurd is
+  meant given (Some (Ask table region kind)) wrote is = inl (record { nothing = refl; unsaid = λ k w e. ap (total (touch_at k)) is })
   meant given (Some Plain) wrote is = inl (record { nothing = refl; unsaid = λ k w e. ap (total (touch_at k)) is })
   meant given (Some (Twice region row)) wrote is = absurd is
   meant given (Some RowLimit) wrote is = absurd is

@@ -5,3 +5,4 @@ pub mod Places
 pub mod Books
 pub mod Dues
 pub mod Stood
+pub mod WantedStood

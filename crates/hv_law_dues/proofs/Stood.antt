@@ -33,7 +33,7 @@ use Rattle.hv_table_rows.proofs.Members.{In, all-in}
 use Rattle.hv_table_rows.proofs.TakenFiles.{tied}
 use Rattle.hv_table_rows.proofs.Shown.{one-write}
 use Rattle.hv_law_visible.specs.Members.{IsIn}
-use Rattle.hv_law_made.specs.Made.{rec_cmp}
+use Rattle.hv_law_read.specs.hv_law_whole.specs.hv_law_made.specs.Made.{rec_cmp}
 use Rattle.hv_law_read.specs.Reading.{ReadsAt}
 use Rattle.hv_law_read.proofs.OwnLemmas.{sorted-length, place_in, IsOfWrite, HasItsSheet, changed_rows, of-sheet, has-sheet}
 use Rattle.hv_counts.specs.Counts.{is_own_of, is_stored, stored_at, stored_sum, AreOwn}

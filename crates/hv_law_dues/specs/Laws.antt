@@ -15,9 +15,9 @@ use Rattle.hv_earlier.specs.Lists.{list_at}
 use Rattle.hv_choosing.specs.declared.listing.DirFile.{DirFile}
 use Rattle.hv_choosing.specs.Listing.{AreListed}
 use Rattle.hv_choosing.specs.Taken.{files_taken}
-use Rattle.hv_table_rows.specs.Reading.{Sheet, sheet_file, IsSheet}
+use Rattle.hv_table_rows.specs.Reading.{Sheet, sheet_file, IsSheet, files_wanted}
 use Rattle.hv_law_read.specs.Reading.{ReadsAt}
-use Rattle.hv_counts.specs.Counts.{dues_in, due_sum, IsCounted, AreOwn}
+use Rattle.hv_counts.specs.Counts.{dues_in, dues_wanted, due_sum, IsCounted, AreOwn}
 use Rattle.hv_law_dues.specs.Counting.{rows_in, changed_rows, touched_in, recorded_in, written_sum}
 
 -- the touches of a change say of each partition how many of its rows are inserted there, and how many deleted
@@ -51,3 +51,14 @@ FilesAreCounted =
     → AllByRecursion (IsSheet deletes files) sheets
     → AreOwn (files_taken deletes (list_at book place table.info.table.0) named) → AreOwn (files_taken false (list_at book place table.info.table.0) named)
     → IsCounted deletes (dues_in (state_of (take place book)) table.info.table.0) sheets
+
+-- So too of the partitions that are wanted, where the files of these alone are read.
+abbrev pub WantedFilesAreCounted : Type 0
+WantedFilesAreCounted =
+    (book : List Entry) (txn place : ℕ) (table : Table) (files : Tree) → IsLegal profile book → ReadsAt book txn place table files
+    → (wants : List ℕ → Bool) (deletes : Bool) (named : List DirFile) (sheets : List Sheet)
+    → AreListed (places_of table.info.table files) named
+    → map sheet_file sheets ≡ files_wanted wants (files_taken deletes (list_at book place table.info.table.0) named)
+    → AllByRecursion (IsSheet deletes files) sheets
+    → AreOwn (files_taken deletes (list_at book place table.info.table.0) named) → AreOwn (files_taken false (list_at book place table.info.table.0) named)
+    → IsCounted deletes (dues_wanted wants (dues_in (state_of (take place book)) table.info.table.0)) sheets

@@ -1,7 +1,7 @@
 ghost use Rattle.std.specs.Prelude.{◌≡◌, true, false};
 ghost use Rattle.hv_stands.specs.Worked.{part_one, part_two};
 ghost use Rattle.hv_law_dues.specs.Worked.{count_by_hand};
-ghost use Rattle.hv_law_dues.specs.Laws.{TouchesCountRows, FilesCountRows, DuesCountWrites, FilesAreCounted};
+ghost use Rattle.hv_law_dues.specs.Laws.{TouchesCountRows, FilesCountRows, DuesCountWrites, FilesAreCounted, WantedFilesAreCounted};
 
 /// The touches of a change say of each partition how many rows are inserted and deleted there, and its files have so many records
 /// there.
@@ -16,9 +16,10 @@ pub fn dues_count_writes()
 {}
 
 /// Where an open transaction reads a table of a legal book from own directories alone, the files have as many records as the commits
-/// before its snapshot say.
+/// before its snapshot say; so too of the partitions that are wanted, where the files of these alone are read.
 pub fn files_are_counted()
     ensures law { FilesAreCounted }
+    ensures wanted { WantedFilesAreCounted }
 {}
 
 /// A write worked out by hand.

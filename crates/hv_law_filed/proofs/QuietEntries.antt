@@ -6,7 +6,7 @@ use Rattle.hv_base.specs.declared.ids.Touch.{Touch}
 use Rattle.hv_shelf.specs.Disk.{Tree}
 use Rattle.hv_ast.specs.declared.statement.Stmt.{Stmt}
 use Rattle.hv_logic.specs.declared.meaning.Meaning.{Meaning}
-use Rattle.hv_logic.specs.declared.meaning.Meaning.TheVariants.{Refused, Listing, Change, Make, Unmake, Plain, Twice, RowLimit, PartitionLimit}
+use Rattle.hv_logic.specs.declared.meaning.Meaning.TheVariants.{Refused, Listing, Change, Make, Unmake, Ask, Plain, Twice, RowLimit, PartitionLimit}
 use Rattle.hv_history.specs.declared.entry.Entry.{Entry}
 use Rattle.hv_history.specs.declared.entry.Entry.TheVariants as entry
 use Rattle.hv_history.specs.declared.state.Written.{Written}
@@ -48,6 +48,7 @@ writes-none (Some (Listing names rows)) = refl
 writes-none (Some (Change info effect)) = refl
 writes-none (Some (Make shape)) = refl
 writes-none (Some (Unmake table)) = refl
+writes-none (Some (Ask table region kind)) = refl
 writes-none (Some Plain) = refl
 writes-none (Some (Twice region row)) = refl
 writes-none (Some RowLimit) = refl

@@ -5,8 +5,8 @@ use Rattle.hv_shelf.specs.declared.place.Place.{Place}
 use Rattle.hv_shelf.specs.Disk.{Tree, IsFree}
 use Rattle.hv_dirs.specs.declared.names.DirName.{DirName}
 use Rattle.hv_dirs.specs.Names.{text_of, write_end}
-use Rattle.hv_history.specs.State.{State, Job, numbered, after}
-use Rattle.hv_history.specs.Jobs.{is_job_of, pieces_for}
+use Rattle.hv_stands.specs.hv_history.specs.State.{State, Job, numbered, after}
+use Rattle.hv_stands.specs.hv_history.specs.Jobs.{is_job_of, pieces_for}
 use Rattle.hv_stands.proofs.Numbers.{same_one}
 use Rattle.hv_jobs.specs.Covers.{range_names}
 use Rattle.hv_law_made.specs.Made.{is_made, made_recs}

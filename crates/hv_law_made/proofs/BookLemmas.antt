@@ -7,20 +7,20 @@ use Rattle.hv_base.specs.declared.ids.Limits.{Limits}
 use Rattle.hv_dirs.specs.Names.{statement_end}
 use Rattle.hv_logic.specs.declared.catalog.TableInfo.{TableInfo}
 use Rattle.hv_logic.specs.declared.meaning.Meaning.{Meaning}
-use Rattle.hv_logic.specs.declared.meaning.Meaning.TheVariants.{Refused, Listing, Change, Make, Unmake, Plain, Twice, RowLimit, PartitionLimit}
-use Rattle.hv_history.specs.declared.entry.Entry.{Entry}
-use Rattle.hv_history.specs.declared.entry.Entry.TheVariants as entry
-use Rattle.hv_history.specs.declared.state.Ending.{Ending}
-use Rattle.hv_history.specs.declared.state.Ending.TheVariants.{Committed, Aborted, Made, Dropped}
-use Rattle.hv_history.specs.declared.state.Statement.{Statement}
-use Rattle.hv_history.specs.declared.state.Table.{Table}
-use Rattle.hv_history.specs.declared.state.Transaction.{Transaction}
-use Rattle.hv_history.specs.declared.state.Written.{Written}
-use Rattle.hv_history.specs.State.{State, Job, numbered, changed, changed_at, given_in, writes_of, written_by, wrote_as, commits, tables_behind, written_to, owned, dropped, forgot, made_by, asked_job, picked, published_at, empty_at, failed_at, cleaned, acted, after, nothing_yet}
-use Rattle.hv_history.specs.Lasting.{GoesOn}
-use Rattle.hv_history.specs.Legal.{CommitFits, Fits, AllFit}
-use Rattle.hv_history.specs.JobsFit.{ForgotFits, is_aborted_by, is_aborted_one, is_aborted_id}
-use Rattle.hv_history.proofs.LastingLaws.{goes-on}
+use Rattle.hv_logic.specs.declared.meaning.Meaning.TheVariants.{Refused, Listing, Change, Make, Unmake, Ask, Plain, Twice, RowLimit, PartitionLimit}
+use Rattle.hv_stands.specs.hv_history.specs.declared.entry.Entry.{Entry}
+use Rattle.hv_stands.specs.hv_history.specs.declared.entry.Entry.TheVariants as entry
+use Rattle.hv_stands.specs.hv_history.specs.declared.state.Ending.{Ending}
+use Rattle.hv_stands.specs.hv_history.specs.declared.state.Ending.TheVariants.{Committed, Aborted, Made, Dropped}
+use Rattle.hv_stands.specs.hv_history.specs.declared.state.Statement.{Statement}
+use Rattle.hv_stands.specs.hv_history.specs.declared.state.Table.{Table}
+use Rattle.hv_stands.specs.hv_history.specs.declared.state.Transaction.{Transaction}
+use Rattle.hv_stands.specs.hv_history.specs.declared.state.Written.{Written}
+use Rattle.hv_stands.specs.hv_history.specs.State.{State, Job, numbered, changed, changed_at, given_in, writes_of, written_by, wrote_as, commits, tables_behind, written_to, owned, dropped, forgot, made_by, asked_job, picked, published_at, empty_at, failed_at, cleaned, acted, after, nothing_yet}
+use Rattle.hv_stands.specs.hv_history.specs.Lasting.{GoesOn}
+use Rattle.hv_stands.specs.hv_history.specs.Legal.{CommitFits, Fits, AllFit}
+use Rattle.hv_stands.specs.hv_history.specs.JobsFit.{ForgotFits, is_aborted_by, is_aborted_one, is_aborted_id}
+use Rattle.hv_stands.specs.hv_history.proofs.LastingLaws.{goes-on}
 use Rattle.hv_stands.specs.Files.{ending_of}
 use Rattle.hv_stands.specs.Sound.{info_in, IsSingle, IsSound}
 use Rattle.hv_stands.proofs.Numbers.{found, numbered-map, numbered-more}
@@ -50,6 +50,7 @@ one-few (Some (Change info effect)) given = by (given_in info.table.0 given)
     by (Some write) = (first-few, tt)
 one-few (Some (Make shape)) given = tt
 one-few (Some (Unmake table)) given = tt
+one-few (Some (Ask table region kind)) given = tt
 one-few (Some Plain) given = tt
 one-few (Some (Twice region row)) given = tt
 one-few (Some RowLimit) given = tt

@@ -7,11 +7,11 @@ use Rattle.std.proofs.lemmas.Bool.{and_parts}
 use Rattle.hv_shelf.specs.declared.place.Place.{Place}
 use Rattle.hv_shelf.specs.Disk.{Tree}
 use Rattle.hv_rowfile.specs.declared.record.Rec.{Rec}
-use Rattle.hv_history.specs.declared.state.Table.{Table}
-use Rattle.hv_history.specs.State.{State, Job, numbered}
+use Rattle.hv_stands.specs.hv_history.specs.declared.state.Table.{Table}
+use Rattle.hv_stands.specs.hv_history.specs.State.{State, Job, numbered}
 use Rattle.hv_stands.specs.Files.{AreEncoded, IsLoose}
 use Rattle.hv_stands.proofs.Numbers.{either}
-use Rattle.hv_history.specs.Jobs.{is_job_of, jobs_of, is_past}
+use Rattle.hv_stands.specs.hv_history.specs.Jobs.{is_job_of, jobs_of, is_past}
 use Rattle.hv_law_made.specs.Made.{made_names, made_recs, is_spare_name, is_spare_in, is_spare, is_gone_name, is_gone}
 use Rattle.hv_law_made.specs.Named.{IsOfTable, AllHaveNames}
 use Rattle.hv_law_made.specs.Standing.{MayHold, IsStagedAt, is_live_at}

@@ -16,18 +16,18 @@ use Rattle.hv_dirs.specs.declared.names.DirName.{DirName}
 use Rattle.hv_dirs.specs.declared.names.DirName.TheVariants as dir
 use Rattle.hv_dirs.specs.Names.{text_of}
 use Rattle.hv_dirs.specs.Choice.{Own, Wide}
-use Rattle.hv_history.specs.declared.entry.Entry.TheVariants as entry
-use Rattle.hv_history.specs.declared.entry.JobKind.{JobKind}
-use Rattle.hv_history.specs.declared.entry.JobKind.TheVariants as kind
-use Rattle.hv_history.specs.declared.state.Table.{Table}
-use Rattle.hv_history.specs.declared.state.Transaction.{Transaction}
-use Rattle.hv_history.specs.declared.state.Written.{Written}
-use Rattle.hv_history.specs.State.{State, Job, numbered, content_of, acted, after, changed, while_open}
+use Rattle.hv_stands.specs.hv_history.specs.declared.entry.Entry.TheVariants as entry
+use Rattle.hv_stands.specs.hv_history.specs.declared.entry.JobKind.{JobKind}
+use Rattle.hv_stands.specs.hv_history.specs.declared.entry.JobKind.TheVariants as kind
+use Rattle.hv_stands.specs.hv_history.specs.declared.state.Table.{Table}
+use Rattle.hv_stands.specs.hv_history.specs.declared.state.Transaction.{Transaction}
+use Rattle.hv_stands.specs.hv_history.specs.declared.state.Written.{Written}
+use Rattle.hv_stands.specs.hv_history.specs.State.{State, Job, numbered, content_of, acted, after, changed, while_open}
 use Rattle.hv_stands.specs.Files.{AreEncoded, IsOwn, ending_of, records_of}
 use Rattle.hv_stands.specs.Sound.{IsOfCommitted}
 use Rattle.hv_stands.proofs.Numbers.{same_one}
 use Rattle.hv_stands.proofs.Soundness.{all-numbered}
-use Rattle.hv_history.specs.Jobs.{is_job_of, jobs_of}
+use Rattle.hv_stands.specs.hv_history.specs.Jobs.{is_job_of, jobs_of}
 use Rattle.hv_jobs.specs.Covers.{names_by, job_names, covers_by, covers, is_freed, cleans, is_cleaned_away}
 use Rattle.hv_law_made.specs.Made.{has_written, rec_cmp, delta_recs, is_up_to, base_recs, in_partition, if_bare, some_or, name_file, write_names, has_events, is_made, jobs_at, made_recs, is_gone}
 use Rattle.hv_law_made.specs.Named.{HasNames, AllHaveNames}

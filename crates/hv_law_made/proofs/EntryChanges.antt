@@ -1,11 +1,11 @@
 -- What each entry changes, whatever stands: what was made stays, and what is new is at places that the entry asks of.
 use Rattle.std.proofs.Common.{refl, inl, inr}
 use Rattle.hv_shelf.specs.declared.place.Place.{Place}
-use Rattle.hv_history.specs.declared.entry.Entry.{Entry}
-use Rattle.hv_history.specs.declared.entry.Entry.TheVariants as entry
-use Rattle.hv_history.specs.State.{State, numbered, after}
-use Rattle.hv_history.specs.Legal.{CreateFits, DropFits}
-use Rattle.hv_history.specs.JobsFit.{PickedFits, PublishedFits, EmptyFits, FailedFits, CleanedFits, ForgotFits}
+use Rattle.hv_stands.specs.hv_history.specs.declared.entry.Entry.{Entry}
+use Rattle.hv_stands.specs.hv_history.specs.declared.entry.Entry.TheVariants as entry
+use Rattle.hv_stands.specs.hv_history.specs.State.{State, numbered, after}
+use Rattle.hv_stands.specs.hv_history.specs.Legal.{CreateFits, DropFits}
+use Rattle.hv_stands.specs.hv_history.specs.JobsFit.{PickedFits, PublishedFits, EmptyFits, FailedFits, CleanedFits, ForgotFits}
 use Rattle.hv_stands.specs.Files.{IsOwn}
 use Rattle.hv_stands.proofs.Numbers.{found}
 use Rattle.hv_stands.proofs.Keeping.{still-open}

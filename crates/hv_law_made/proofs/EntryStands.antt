@@ -11,17 +11,17 @@ use Rattle.hv_base.specs.declared.ids.TxnId.{TxnId}
 use Rattle.hv_shelf.specs.declared.place.Place.{Place}
 use Rattle.hv_shelf.specs.Disk.{Tree}
 use Rattle.hv_dirs.specs.Names.{write_end}
-use Rattle.hv_history.specs.declared.entry.Entry.{Entry}
-use Rattle.hv_history.specs.declared.entry.Entry.TheVariants as entry
-use Rattle.hv_history.specs.declared.state.Ending.{Ending}
-use Rattle.hv_history.specs.declared.state.Ending.TheVariants.{Committed, Aborted, Made, Dropped}
-use Rattle.hv_history.specs.declared.state.Table.{Table}
-use Rattle.hv_history.specs.declared.state.Transaction.{Transaction}
-use Rattle.hv_history.specs.declared.state.Written.{Written}
-use Rattle.hv_history.specs.State.{State, Job, numbered, changed, changed_at, commits, tables_behind, written_to, acted, after}
-use Rattle.hv_history.specs.Legal.{Of, CommitFits, CreateFits, DropFits, Fits}
-use Rattle.hv_history.specs.Jobs.{is_open_one, is_job_of, is_past, ended_front, ids_of, watermark}
-use Rattle.hv_history.specs.JobsFit.{OfJob, PickedFits, PublishedFits, EmptyFits, FailedFits, CleanedFits, ForgotFits}
+use Rattle.hv_stands.specs.hv_history.specs.declared.entry.Entry.{Entry}
+use Rattle.hv_stands.specs.hv_history.specs.declared.entry.Entry.TheVariants as entry
+use Rattle.hv_stands.specs.hv_history.specs.declared.state.Ending.{Ending}
+use Rattle.hv_stands.specs.hv_history.specs.declared.state.Ending.TheVariants.{Committed, Aborted, Made, Dropped}
+use Rattle.hv_stands.specs.hv_history.specs.declared.state.Table.{Table}
+use Rattle.hv_stands.specs.hv_history.specs.declared.state.Transaction.{Transaction}
+use Rattle.hv_stands.specs.hv_history.specs.declared.state.Written.{Written}
+use Rattle.hv_stands.specs.hv_history.specs.State.{State, Job, numbered, changed, changed_at, commits, tables_behind, written_to, acted, after}
+use Rattle.hv_stands.specs.hv_history.specs.Legal.{Of, CommitFits, CreateFits, DropFits, Fits}
+use Rattle.hv_stands.specs.hv_history.specs.Jobs.{is_open_one, is_job_of, is_past, ended_front, ids_of, watermark}
+use Rattle.hv_stands.specs.hv_history.specs.JobsFit.{OfJob, PickedFits, PublishedFits, EmptyFits, FailedFits, CleanedFits, ForgotFits}
 use Rattle.hv_stands.specs.Files.{IsLoose, IsOwn, IsUndone, ending_of}
 use Rattle.hv_stands.specs.Sound.{info_in, given_of, owners_of, given_among, owner_among, IsSingle}
 use Rattle.hv_stands.proofs.Numbers.{found, one_value, same_one, either, numbered-changed, changed-here, numbered-map}

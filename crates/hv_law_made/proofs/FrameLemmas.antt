@@ -6,7 +6,7 @@ use Rattle.std.proofs.lemmas.Bool.{and_parts}
 use Rattle.hv_shelf.specs.declared.place.Place.{Place}
 use Rattle.hv_shelf.specs.Disk.{Tree}
 use Rattle.hv_rowfile.specs.declared.record.Rec.{Rec}
-use Rattle.hv_history.specs.State.{State, numbered}
+use Rattle.hv_stands.specs.hv_history.specs.State.{State, numbered}
 use Rattle.hv_stands.proofs.Numbers.{none_is}
 use Rattle.hv_stands.proofs.Soundness.{all-numbered}
 use Rattle.hv_law_made.specs.Made.{made_recs, is_spare, is_gone}

@@ -11,13 +11,13 @@ use Rattle.hv_shelf.specs.Laws.{alike}
 use Rattle.hv_shelf.specs.Places.{is_in}
 use Rattle.hv_dirs.specs.declared.names.DirName.{DirName}
 use Rattle.hv_dirs.specs.Names.{text_of, write_end}
-use Rattle.hv_history.specs.declared.entry.Entry.{Entry}
-use Rattle.hv_history.specs.declared.entry.Entry.TheVariants as entry
-use Rattle.hv_history.specs.declared.entry.JobCause.{JobCause}
-use Rattle.hv_history.specs.declared.state.Table.{Table}
-use Rattle.hv_history.specs.State.{State, Job, Openings, numbered, openings_behind, first_of, failed_at, acted, after}
-use Rattle.hv_history.specs.Legal.{is_working}
-use Rattle.hv_history.specs.Jobs.{is_job_of, pieces_for, is_empty_of}
+use Rattle.hv_stands.specs.hv_history.specs.declared.entry.Entry.{Entry}
+use Rattle.hv_stands.specs.hv_history.specs.declared.entry.Entry.TheVariants as entry
+use Rattle.hv_stands.specs.hv_history.specs.declared.entry.JobCause.{JobCause}
+use Rattle.hv_stands.specs.hv_history.specs.declared.state.Table.{Table}
+use Rattle.hv_stands.specs.hv_history.specs.State.{State, Job, Openings, numbered, openings_behind, first_of, failed_at, acted, after}
+use Rattle.hv_stands.specs.hv_history.specs.Legal.{is_working}
+use Rattle.hv_stands.specs.hv_history.specs.Jobs.{is_job_of, pieces_for, is_empty_of}
 use Rattle.hv_stands.proofs.Numbers.{none_is, same_one, either}
 use Rattle.hv_stands.proofs.Soundness.{all-numbered}
 use Rattle.hv_jobs.specs.Covers.{range_names}

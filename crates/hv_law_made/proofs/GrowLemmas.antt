@@ -7,8 +7,8 @@ use Rattle.hv_logic.specs.declared.catalog.Shape.{Shape}
 use Rattle.hv_rowfile.specs.declared.record.Rec.{Rec}
 use Rattle.hv_dirs.specs.declared.names.DirName.{DirName}
 use Rattle.hv_dirs.specs.Names.{text_of}
-use Rattle.hv_history.specs.declared.state.Table.{Table}
-use Rattle.hv_history.specs.State.{State, numbered}
+use Rattle.hv_stands.specs.hv_history.specs.declared.state.Table.{Table}
+use Rattle.hv_stands.specs.hv_history.specs.State.{State, numbered}
 use Rattle.hv_stands.specs.Files.{IsLoose}
 use Rattle.hv_stands.proofs.Numbers.{none_is}
 use Rattle.hv_stands.proofs.Soundness.{all-numbered}

@@ -16,8 +16,8 @@ use Rattle.hv_shelf.specs.Disk.{Tree, IsFree, places_of}
 use Rattle.hv_shelf.specs.Laws.{same_tree}
 use Rattle.hv_shelf.specs.Places.{place_cmp, place_total, place_antisymmetric, is_in, is_of}
 use Rattle.hv_dirs.specs.Names.{text_of}
-use Rattle.hv_history.specs.State.{State, Job, numbered}
-use Rattle.hv_history.specs.Legal.{is_working}
+use Rattle.hv_stands.specs.hv_history.specs.State.{State, Job, numbered}
+use Rattle.hv_stands.specs.hv_history.specs.Legal.{is_working}
 use Rattle.hv_jobs.specs.Finals.{finals_of}
 use Rattle.hv_stands.proofs.Numbers.{none_is}
 use Rattle.hv_law_made.specs.Standing.{Standing}

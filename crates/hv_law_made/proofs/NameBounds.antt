@@ -3,11 +3,11 @@ use Rattle.std.proofs.Common.{◌≡◌, ℕ, suc, ◌+◌, ◌<◌, ◌≤◌, 
 use Rattle.std.specs.Prelude.{if◌then◌else◌}
 use Rattle.std.specs.List.{AllByRecursion}
 use Rattle.hv_dirs.specs.Names.{write_end}
-use Rattle.hv_history.specs.declared.state.Table.{Table}
-use Rattle.hv_history.specs.declared.state.Transaction.{Transaction}
-use Rattle.hv_history.specs.declared.state.Written.{Written}
-use Rattle.hv_history.specs.State.{State, Job, numbered}
-use Rattle.hv_history.specs.Jobs.{is_open_one, ids_of, ended_front}
+use Rattle.hv_stands.specs.hv_history.specs.declared.state.Table.{Table}
+use Rattle.hv_stands.specs.hv_history.specs.declared.state.Transaction.{Transaction}
+use Rattle.hv_stands.specs.hv_history.specs.declared.state.Written.{Written}
+use Rattle.hv_stands.specs.hv_history.specs.State.{State, Job, numbered}
+use Rattle.hv_stands.specs.hv_history.specs.Jobs.{is_open_one, ids_of, ended_front}
 use Rattle.hv_stands.specs.Files.{ending_of}
 use Rattle.hv_stands.specs.Sound.{HasFewOwners, IsOfCommitted, AreOfCommitted}
 use Rattle.hv_law_jobs.specs.Sound.{HasSoundRange, IsSoundJob}

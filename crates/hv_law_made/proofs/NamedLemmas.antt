@@ -12,11 +12,11 @@ use Rattle.hv_rowfile.specs.declared.record.Rec.{Rec}
 use Rattle.hv_dirs.specs.declared.names.DirName.{DirName}
 use Rattle.hv_dirs.specs.Names.{IsName, text_of}
 use Rattle.hv_dirs.proofs.NameLemmas as texts
-use Rattle.hv_history.specs.declared.entry.JobKind.{JobKind}
-use Rattle.hv_history.specs.declared.entry.JobKind.TheVariants as kind
-use Rattle.hv_history.specs.declared.state.Table.{Table}
-use Rattle.hv_history.specs.declared.state.Written.{Written}
-use Rattle.hv_history.specs.State.{State, Job, numbered}
+use Rattle.hv_stands.specs.hv_history.specs.declared.entry.JobKind.{JobKind}
+use Rattle.hv_stands.specs.hv_history.specs.declared.entry.JobKind.TheVariants as kind
+use Rattle.hv_stands.specs.hv_history.specs.declared.state.Table.{Table}
+use Rattle.hv_stands.specs.hv_history.specs.declared.state.Written.{Written}
+use Rattle.hv_stands.specs.hv_history.specs.State.{State, Job, numbered}
 use Rattle.hv_stands.proofs.Numbers.{either}
 use Rattle.hv_jobs.specs.Covers.{names_by, job_names, is_freed, is_cleaned_away}
 use Rattle.hv_law_made.specs.Made.{name_file, write_names, names_in, is_made, made_names, is_named, file_among, jobs_at, recs_in, made_recs, is_spare_name, is_spare_in, is_spare, is_gone_name, is_gone_in, is_gone}

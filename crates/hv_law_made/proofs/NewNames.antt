@@ -4,11 +4,11 @@ use Rattle.std.specs.Prelude.{◌&&◌, ◌==◌, not, nat_le}
 use Rattle.std.proofs.lemmas.Bool.{lt-leb, le-ltb}
 use Rattle.hv_dirs.specs.declared.names.DirName.{DirName}
 use Rattle.hv_dirs.specs.declared.names.DirName.TheVariants as dir
-use Rattle.hv_history.specs.declared.entry.JobKind.{JobKind}
-use Rattle.hv_history.specs.declared.entry.JobKind.TheVariants.{Minor, Major}
-use Rattle.hv_history.specs.State.{State, Job, numbered}
-use Rattle.hv_history.specs.Jobs.{is_kind, is_job_of}
-use Rattle.hv_history.specs.JobsFit.{PublishedFits}
+use Rattle.hv_stands.specs.hv_history.specs.declared.entry.JobKind.{JobKind}
+use Rattle.hv_stands.specs.hv_history.specs.declared.entry.JobKind.TheVariants.{Minor, Major}
+use Rattle.hv_stands.specs.hv_history.specs.State.{State, Job, numbered}
+use Rattle.hv_stands.specs.hv_history.specs.Jobs.{is_kind, is_job_of}
+use Rattle.hv_stands.specs.hv_history.specs.JobsFit.{PublishedFits}
 use Rattle.hv_jobs.specs.Covers.{range_names, names_by, covers_range, covers_by}
 use Rattle.hv_law_visible.specs.Members.{IsIn}
 use Rattle.hv_law_jobs.specs.Sound.{IsSoundRange, IsSoundJob, IsAboveBase, ReachesFurther, AreSoundJobs}

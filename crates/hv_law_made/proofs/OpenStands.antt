@@ -3,12 +3,12 @@ use Rattle.std.proofs.Common.{refl, ◌≡◌, ◌⊎◌, inl, inr, ℕ, zero, s
 use Rattle.std.specs.List.{slice_get}
 use Rattle.std.proofs.lemmas.List.{map-append}
 use Rattle.hv_base.specs.declared.ids.TxnId.{TxnId}
-use Rattle.hv_history.specs.declared.entry.Entry.{Entry}
-use Rattle.hv_history.specs.declared.entry.Entry.TheVariants as entry
-use Rattle.hv_history.specs.declared.state.Ending.{Ending}
-use Rattle.hv_history.specs.declared.state.Ending.TheVariants.{Aborted}
-use Rattle.hv_history.specs.declared.state.Transaction.{Transaction}
-use Rattle.hv_history.specs.State.{State, Job, numbered, acted, after, opened, changed, changed_at, ended, started, unless_ended, while_open}
+use Rattle.hv_stands.specs.hv_history.specs.declared.entry.Entry.{Entry}
+use Rattle.hv_stands.specs.hv_history.specs.declared.entry.Entry.TheVariants as entry
+use Rattle.hv_stands.specs.hv_history.specs.declared.state.Ending.{Ending}
+use Rattle.hv_stands.specs.hv_history.specs.declared.state.Ending.TheVariants.{Aborted}
+use Rattle.hv_stands.specs.hv_history.specs.declared.state.Transaction.{Transaction}
+use Rattle.hv_stands.specs.hv_history.specs.State.{State, Job, numbered, acted, after, opened, changed, changed_at, ended, started, unless_ended, while_open}
 use Rattle.hv_stands.specs.Files.{IsUndone, ending_of}
 use Rattle.hv_stands.proofs.Numbers.{numbered-more}
 use Rattle.hv_law_made.specs.Laws.{IsQuiet, IsMarked, OpenedStands, is_quiet_entry, QuietEntriesStand}

@@ -7,15 +7,15 @@ use Rattle.std.proofs.lemmas.Bool.{and_parts, and_cases, false_from_ne_true}
 use Rattle.std.proofs.lemmas.List.Sums.{sum_by-cons}
 use Rattle.hv_shelf.specs.Disk.{Tree}
 use Rattle.hv_dirs.specs.Names.{write_end}
-use Rattle.hv_history.specs.declared.entry.Entry.{Entry}
-use Rattle.hv_history.specs.declared.entry.Entry.TheVariants as entry
-use Rattle.hv_history.specs.declared.entry.JobCause.{JobCause}
-use Rattle.hv_history.specs.declared.entry.JobCause.TheVariants as job_cause
-use Rattle.hv_history.specs.declared.state.Table.{Table}
-use Rattle.hv_history.specs.State.{State, Job, Openings, numbered, openings_behind, published_at, failed_at, acted, after}
-use Rattle.hv_history.specs.Legal.{profile, is_working, one_if, working_one, Fits}
-use Rattle.hv_history.specs.Jobs.{is_job_of, is_live_one, pieces_for, is_empty_of}
-use Rattle.hv_history.specs.JobsFit.{FailedFits, is_live_job}
+use Rattle.hv_stands.specs.hv_history.specs.declared.entry.Entry.{Entry}
+use Rattle.hv_stands.specs.hv_history.specs.declared.entry.Entry.TheVariants as entry
+use Rattle.hv_stands.specs.hv_history.specs.declared.entry.JobCause.{JobCause}
+use Rattle.hv_stands.specs.hv_history.specs.declared.entry.JobCause.TheVariants as job_cause
+use Rattle.hv_stands.specs.hv_history.specs.declared.state.Table.{Table}
+use Rattle.hv_stands.specs.hv_history.specs.State.{State, Job, Openings, numbered, openings_behind, published_at, failed_at, acted, after}
+use Rattle.hv_stands.specs.hv_history.specs.Legal.{profile, is_working, one_if, working_one, Fits}
+use Rattle.hv_stands.specs.hv_history.specs.Jobs.{is_job_of, is_live_one, pieces_for, is_empty_of}
+use Rattle.hv_stands.specs.hv_history.specs.JobsFit.{FailedFits, is_live_job}
 use Rattle.hv_stands.proofs.Numbers.{none_is, same_one, either}
 use Rattle.hv_law_jobs.proofs.OrderLemmas.{number-there}
 use Rattle.hv_law_made.specs.Standing.{Standing}

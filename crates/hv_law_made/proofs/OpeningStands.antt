@@ -10,10 +10,10 @@ use Rattle.hv_shelf.specs.Laws.{alike}
 use Rattle.hv_shelf.specs.Places.{is_in}
 use Rattle.hv_dirs.specs.declared.names.DirName.{DirName}
 use Rattle.hv_dirs.specs.Names.{text_of, write_end}
-use Rattle.hv_history.specs.declared.entry.Entry.{Entry}
-use Rattle.hv_history.specs.State.{State, Job, Openings, numbered, openings_behind, first_of, published_at, acted, after}
-use Rattle.hv_history.specs.Legal.{profile, is_working}
-use Rattle.hv_history.specs.Jobs.{Pieces, is_job_of, pieces_for}
+use Rattle.hv_stands.specs.hv_history.specs.declared.entry.Entry.{Entry}
+use Rattle.hv_stands.specs.hv_history.specs.State.{State, Job, Openings, numbered, openings_behind, first_of, published_at, acted, after}
+use Rattle.hv_stands.specs.hv_history.specs.Legal.{profile, is_working}
+use Rattle.hv_stands.specs.hv_history.specs.Jobs.{Pieces, is_job_of, pieces_for}
 use Rattle.hv_stands.proofs.Numbers.{none_is, same_one, either}
 use Rattle.hv_jobs.specs.Covers.{range_names}
 use Rattle.hv_law_made.specs.Made.{made_recs}

@@ -3,9 +3,9 @@ use Rattle.std.proofs.Common.{◌≡◌, ℕ, ◌+◌, inl, inr, true, false, Li
 use Rattle.std.specs.Prelude.{◌&&◌}
 use Rattle.std.proofs.lemmas.Bool.{and_cases}
 use Rattle.hv_shelf.specs.Disk.{Tree}
-use Rattle.hv_history.specs.State.{State, Job}
-use Rattle.hv_history.specs.Legal.{is_working}
-use Rattle.hv_history.specs.JobsFit.{is_live_job}
+use Rattle.hv_stands.specs.hv_history.specs.State.{State, Job}
+use Rattle.hv_stands.specs.hv_history.specs.Legal.{is_working}
+use Rattle.hv_stands.specs.hv_history.specs.JobsFit.{is_live_job}
 use Rattle.hv_law_made.specs.Entries.{IsAtWork, Recovers}
 use Rattle.hv_law_made.specs.Opening.{whole_jobs, is_among, is_to_publish, failing_dirs, SomeGo, IsWholeOrBare, IsGivenUp}
 use Rattle.hv_law_made.specs.Stopping.{ended_state, OpeningFrontsRecover, OpeningStopsRecover}

@@ -9,10 +9,10 @@ use Rattle.hv_shelf.specs.Disk.{Tree}
 use Rattle.hv_shelf.specs.Places.{is_in}
 use Rattle.hv_dirs.specs.declared.names.DirName.{DirName}
 use Rattle.hv_dirs.specs.Names.{text_of}
-use Rattle.hv_history.specs.declared.state.Table.{Table}
-use Rattle.hv_history.specs.State.{State, Job, Openings, numbered, changed, changed_at, first_of, published_at, acted, after}
-use Rattle.hv_history.specs.Legal.{is_working}
-use Rattle.hv_history.specs.Jobs.{Pieces, is_job_of, events_in, is_up_to, mark_by, pieces_among, pieces_for, is_empty_of}
+use Rattle.hv_stands.specs.hv_history.specs.declared.state.Table.{Table}
+use Rattle.hv_stands.specs.hv_history.specs.State.{State, Job, Openings, numbered, changed, changed_at, first_of, published_at, acted, after}
+use Rattle.hv_stands.specs.hv_history.specs.Legal.{is_working}
+use Rattle.hv_stands.specs.hv_history.specs.Jobs.{Pieces, is_job_of, events_in, is_up_to, mark_by, pieces_among, pieces_for, is_empty_of}
 use Rattle.hv_stands.proofs.Numbers.{same_one, numbered-changed, changed-here}
 use Rattle.hv_jobs.specs.Covers.{range_names, names_by, job_names}
 use Rattle.hv_law_made.specs.Made.{write_names, file_among, is_made, jobs_at, recs_in, made_recs}

@@ -2,10 +2,10 @@
 use Rattle.std.proofs.Common.{refl, ◌≡◌, ◌⊎◌, inl, inr, ℕ, zero, suc, ◌+◌, ◌≤◌, nat_lt, Bool, true, false, cond, Option, Some, None, List, [], ◌∷◌, sym, ap, ◌∙◌, subst, arith, ltb-true, ltb-false, true≢false}
 use Rattle.std.specs.Prelude.{is_none}
 use Rattle.std.specs.List.{slice_get}
-use Rattle.hv_history.specs.declared.state.Transaction.{Transaction}
-use Rattle.hv_history.specs.State.{State, changed, changed_at}
-use Rattle.hv_history.specs.Legal.{is_open}
-use Rattle.hv_history.specs.Jobs.{first_open, if_below, is_past_by}
+use Rattle.hv_stands.specs.hv_history.specs.declared.state.Transaction.{Transaction}
+use Rattle.hv_stands.specs.hv_history.specs.State.{State, changed, changed_at}
+use Rattle.hv_stands.specs.hv_history.specs.Legal.{is_open}
+use Rattle.hv_stands.specs.hv_history.specs.Jobs.{first_open, if_below, is_past_by}
 use Rattle.hv_law_made.specs.Laws.{IsMarked}
 
 abbrev pub is_open_one : Option Transaction → Bool

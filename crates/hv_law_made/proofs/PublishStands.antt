@@ -11,13 +11,13 @@ use Rattle.hv_shelf.specs.declared.place.Place.{Place}
 use Rattle.hv_shelf.specs.Disk.{Tree}
 use Rattle.hv_dirs.specs.declared.names.DirName.{DirName}
 use Rattle.hv_dirs.proofs.NameLemmas as texts
-use Rattle.hv_history.specs.declared.entry.Entry.TheVariants as entry
-use Rattle.hv_history.specs.declared.state.Table.{Table}
-use Rattle.hv_history.specs.State.{State, Job, numbered, acted, after, changed, first_of, published_at}
+use Rattle.hv_stands.specs.hv_history.specs.declared.entry.Entry.TheVariants as entry
+use Rattle.hv_stands.specs.hv_history.specs.declared.state.Table.{Table}
+use Rattle.hv_stands.specs.hv_history.specs.State.{State, Job, numbered, acted, after, changed, first_of, published_at}
 use Rattle.hv_stands.specs.Files.{AreEncoded}
 use Rattle.hv_stands.proofs.Numbers.{same_one, changed-here}
 use Rattle.hv_stands.proofs.Soundness.{all-numbered}
-use Rattle.hv_history.specs.Jobs.{is_job_of, is_past_by}
+use Rattle.hv_stands.specs.hv_history.specs.Jobs.{is_job_of, is_past_by}
 use Rattle.hv_jobs.specs.Covers.{range_names, names_by, job_names, covers, frees, is_freed, cleans, is_cleaned_away}
 use Rattle.hv_law_made.specs.Made.{write_names, names_in, jobs_at, made_recs, is_gone}
 use Rattle.hv_law_made.specs.Named.{IsOfTable, HasNames, AllHaveNames}

@@ -7,10 +7,10 @@ use Rattle.hv_shelf.specs.declared.place.Place.{Place}
 use Rattle.hv_shelf.specs.Disk.{Tree}
 use Rattle.hv_rowfile.specs.declared.record.Rec.{Rec}
 use Rattle.hv_dirs.specs.declared.names.DirName.{DirName}
-use Rattle.hv_history.specs.declared.state.Table.{Table}
-use Rattle.hv_history.specs.State.{State, Job, numbered}
+use Rattle.hv_stands.specs.hv_history.specs.declared.state.Table.{Table}
+use Rattle.hv_stands.specs.hv_history.specs.State.{State, Job, numbered}
 use Rattle.hv_stands.specs.Files.{AreEncoded, IsOwn}
-use Rattle.hv_history.specs.Jobs.{is_job_of, jobs_of, is_past}
+use Rattle.hv_stands.specs.hv_history.specs.Jobs.{is_job_of, jobs_of, is_past}
 use Rattle.hv_jobs.specs.Covers.{covers, frees, is_freed}
 use Rattle.hv_law_made.specs.Made.{file_among, names_in, made_names, is_named, made_recs, is_spare_name, is_spare_in, is_spare, is_gone_name, is_gone_in, is_gone, recs_in}
 use Rattle.hv_law_made.specs.Standing.{MayHold, is_live_table, is_live_at}

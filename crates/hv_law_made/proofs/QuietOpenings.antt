@@ -6,15 +6,15 @@ use Rattle.std.specs.FinMap as finmap
 use Rattle.std.specs.List.{flat_map, list_all, slice_get}
 use Rattle.hv_shelf.specs.declared.place.Place.{Place}
 use Rattle.hv_shelf.specs.Disk.{Tree}
-use Rattle.hv_history.specs.declared.entry.Cause.{Cause}
-use Rattle.hv_history.specs.declared.entry.Entry.{Entry}
-use Rattle.hv_history.specs.declared.entry.Entry.TheVariants as entry
-use Rattle.hv_history.specs.declared.state.Ending.{Ending}
-use Rattle.hv_history.specs.declared.state.Ending.TheVariants.{Aborted}
-use Rattle.hv_history.specs.declared.state.Transaction.{Transaction}
-use Rattle.hv_history.specs.State.{State, Job, numbered, changed, changed_at, first_of, started, ended, unless_ended, while_open, published_at, acted, after}
-use Rattle.hv_history.specs.Legal.{is_working}
-use Rattle.hv_history.specs.Jobs.{Pieces, is_job_of, jobs_of, events_by, events_at, events_from, ids_of, events_in, is_up_to, mark_by, pieces_among, pieces_for, is_empty_of}
+use Rattle.hv_stands.specs.hv_history.specs.declared.entry.Cause.{Cause}
+use Rattle.hv_stands.specs.hv_history.specs.declared.entry.Entry.{Entry}
+use Rattle.hv_stands.specs.hv_history.specs.declared.entry.Entry.TheVariants as entry
+use Rattle.hv_stands.specs.hv_history.specs.declared.state.Ending.{Ending}
+use Rattle.hv_stands.specs.hv_history.specs.declared.state.Ending.TheVariants.{Aborted}
+use Rattle.hv_stands.specs.hv_history.specs.declared.state.Transaction.{Transaction}
+use Rattle.hv_stands.specs.hv_history.specs.State.{State, Job, numbered, changed, changed_at, first_of, started, ended, unless_ended, while_open, published_at, acted, after}
+use Rattle.hv_stands.specs.hv_history.specs.Legal.{is_working}
+use Rattle.hv_stands.specs.hv_history.specs.Jobs.{Pieces, is_job_of, jobs_of, events_by, events_at, events_from, ids_of, events_in, is_up_to, mark_by, pieces_among, pieces_for, is_empty_of}
 use Rattle.hv_jobs.specs.Covers.{range_names, names_by, job_names}
 use Rattle.hv_jobs.specs.Finals.{unless_bare, final_names, finals_of}
 use Rattle.hv_law_made.specs.Made.{is_made, jobs_at, made_recs}

@@ -11,10 +11,10 @@ use Rattle.hv_shelf.specs.Disk.{Store, IsFree}
 use Rattle.hv_shelf.specs.Places.{is_in}
 use Rattle.hv_dirs.specs.declared.names.DirName.{DirName}
 use Rattle.hv_dirs.specs.Names.{IsNumber, text_of, write_end}
-use Rattle.hv_history.specs.declared.state.Table.{Table}
-use Rattle.hv_history.specs.State.{State, Job, numbered}
-use Rattle.hv_history.specs.Legal.{is_working}
-use Rattle.hv_history.specs.Jobs.{is_initiated, is_job_of, pieces_for}
+use Rattle.hv_stands.specs.hv_history.specs.declared.state.Table.{Table}
+use Rattle.hv_stands.specs.hv_history.specs.State.{State, Job, numbered}
+use Rattle.hv_stands.specs.hv_history.specs.Legal.{is_working}
+use Rattle.hv_stands.specs.hv_history.specs.Jobs.{is_initiated, is_job_of, pieces_for}
 use Rattle.hv_stands.proofs.Numbers.{same_one, either}
 use Rattle.hv_jobs.specs.Covers.{range_names}
 use Rattle.hv_law_jobs.proofs.OrderLemmas.{in-order, job-of-from, job-of-back}

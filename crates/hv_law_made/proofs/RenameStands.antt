@@ -20,14 +20,14 @@ use Rattle.hv_dirs.specs.declared.names.DirName.TheVariants as dir
 use Rattle.hv_dirs.specs.Choice.{Wide}
 use Rattle.hv_dirs.specs.Names.{IsName, IsPlain, IsNumber, IsStagedAs, is_compacted, text_of, write_end}
 use Rattle.hv_dirs.proofs.NameLemmas as texts
-use Rattle.hv_history.specs.declared.entry.JobKind.{JobKind}
-use Rattle.hv_history.specs.declared.entry.JobKind.TheVariants as kind
-use Rattle.hv_history.specs.declared.state.Table.{Table}
-use Rattle.hv_history.specs.declared.state.Written.{Written}
-use Rattle.hv_history.specs.State.{State, Job, numbered, acted, after}
-use Rattle.hv_history.specs.Legal.{profile, Fits}
-use Rattle.hv_history.specs.Jobs.{is_job_of, is_live_one, pieces_for}
-use Rattle.hv_history.specs.JobsFit.{PublishedFits}
+use Rattle.hv_stands.specs.hv_history.specs.declared.entry.JobKind.{JobKind}
+use Rattle.hv_stands.specs.hv_history.specs.declared.entry.JobKind.TheVariants as kind
+use Rattle.hv_stands.specs.hv_history.specs.declared.state.Table.{Table}
+use Rattle.hv_stands.specs.hv_history.specs.declared.state.Written.{Written}
+use Rattle.hv_stands.specs.hv_history.specs.State.{State, Job, numbered, acted, after}
+use Rattle.hv_stands.specs.hv_history.specs.Legal.{profile, Fits}
+use Rattle.hv_stands.specs.hv_history.specs.Jobs.{is_job_of, is_live_one, pieces_for}
+use Rattle.hv_stands.specs.hv_history.specs.JobsFit.{PublishedFits}
 use Rattle.hv_stands.specs.Files.{records_of}
 use Rattle.hv_stands.proofs.Numbers.{none_is, same_one, either}
 use Rattle.hv_stands.proofs.Soundness.{all-numbered}

@@ -4,11 +4,11 @@ use Rattle.std.specs.Cmp.Lexicographic.{pointwise}
 use Rattle.std.specs.List.{flat_map}
 use Rattle.hv_shelf.specs.declared.place.Place.{Place}
 use Rattle.hv_dirs.specs.declared.names.DirName.{DirName}
-use Rattle.hv_history.specs.declared.state.Table.{Table}
-use Rattle.hv_history.specs.State.{State, Job, numbered, changed}
+use Rattle.hv_stands.specs.hv_history.specs.declared.state.Table.{Table}
+use Rattle.hv_stands.specs.hv_history.specs.State.{State, Job, numbered, changed}
 use Rattle.hv_stands.specs.Files.{IsLoose, IsOwn, IsUndone, ending_of}
 use Rattle.hv_stands.proofs.Numbers.{either, same_one, changed-here, numbered-changed}
-use Rattle.hv_history.specs.Jobs.{is_job_of, jobs_of}
+use Rattle.hv_stands.specs.hv_history.specs.Jobs.{is_job_of, jobs_of}
 use Rattle.hv_jobs.specs.Covers.{job_names, is_freed, is_cleaned_away}
 use Rattle.hv_law_made.specs.Made.{write_names, names_in, is_made, jobs_at, is_gone_in, is_gone}
 use Rattle.hv_law_made.specs.Named.{AllHaveNames}

@@ -5,9 +5,9 @@ use Rattle.std.specs.Prelude.{◌==◌, is_none}
 use Rattle.std.specs.Cmp.Lexicographic.{pointwise}
 use Rattle.std.specs.List.{flat_map, list_any, slice_get}
 use Rattle.hv_dirs.specs.declared.names.DirName.{DirName}
-use Rattle.hv_history.specs.declared.state.Transaction.{Transaction}
-use Rattle.hv_history.specs.State.{State, Job, numbered, changed, changed_at}
-use Rattle.hv_history.specs.Jobs.{is_job_of, jobs_of, first_open, if_below, is_past_by}
+use Rattle.hv_stands.specs.hv_history.specs.declared.state.Transaction.{Transaction}
+use Rattle.hv_stands.specs.hv_history.specs.State.{State, Job, numbered, changed, changed_at}
+use Rattle.hv_stands.specs.hv_history.specs.Jobs.{is_job_of, jobs_of, first_open, if_below, is_past_by}
 use Rattle.hv_jobs.specs.Covers.{names_by, job_names, covers_by, covers, frees, is_freed}
 use Rattle.hv_law_visible.specs.Members.{IsIn}
 

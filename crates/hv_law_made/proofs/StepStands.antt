@@ -7,13 +7,13 @@ use Rattle.hv_base.specs.declared.ids.TableId.{TableId}
 use Rattle.hv_shelf.specs.declared.place.Place.{Place}
 use Rattle.hv_shelf.specs.Disk.{Tree}
 use Rattle.hv_dirs.specs.declared.names.DirName.{DirName}
-use Rattle.hv_history.specs.declared.entry.Entry.{Entry}
-use Rattle.hv_history.specs.declared.entry.Entry.TheVariants as entry
-use Rattle.hv_history.specs.declared.entry.JobKind.{JobKind}
-use Rattle.hv_history.specs.declared.state.Table.{Table}
-use Rattle.hv_history.specs.State.{State, Job, numbered, acted, after, first_of}
+use Rattle.hv_stands.specs.hv_history.specs.declared.entry.Entry.{Entry}
+use Rattle.hv_stands.specs.hv_history.specs.declared.entry.Entry.TheVariants as entry
+use Rattle.hv_stands.specs.hv_history.specs.declared.entry.JobKind.{JobKind}
+use Rattle.hv_stands.specs.hv_history.specs.declared.state.Table.{Table}
+use Rattle.hv_stands.specs.hv_history.specs.State.{State, Job, numbered, acted, after, first_of}
 use Rattle.hv_stands.specs.Files.{AreEncoded}
-use Rattle.hv_history.specs.Jobs.{is_job_of, jobs_of, is_past_by, is_past}
+use Rattle.hv_stands.specs.hv_history.specs.Jobs.{is_job_of, jobs_of, is_past_by, is_past}
 use Rattle.hv_jobs.specs.Covers.{names_by, job_names, covers, frees, is_freed, cleans, is_cleaned_away}
 use Rattle.hv_stands.proofs.Numbers.{same_one, numbered-more}
 use Rattle.hv_stands.proofs.Soundness.{all-numbered}

@@ -8,15 +8,15 @@ use Rattle.hv_base.specs.declared.ids.TxnId.{TxnId}
 use Rattle.hv_base.specs.declared.ids.WriteId.{WriteId}
 use Rattle.hv_shelf.specs.declared.place.Place.{Place}
 use Rattle.hv_shelf.specs.Disk.{Tree}
-use Rattle.hv_history.specs.declared.entry.Entry.TheVariants as entry
-use Rattle.hv_history.specs.declared.state.Ending.{Ending}
-use Rattle.hv_history.specs.declared.state.Table.{Table}
-use Rattle.hv_history.specs.declared.state.Transaction.{Transaction}
-use Rattle.hv_history.specs.State.{State, Job, numbered, acted, after, changed, changed_at, given_id, owned, forgot, unless_ended, while_open}
-use Rattle.hv_history.specs.Legal.{is_open}
+use Rattle.hv_stands.specs.hv_history.specs.declared.entry.Entry.TheVariants as entry
+use Rattle.hv_stands.specs.hv_history.specs.declared.state.Ending.{Ending}
+use Rattle.hv_stands.specs.hv_history.specs.declared.state.Table.{Table}
+use Rattle.hv_stands.specs.hv_history.specs.declared.state.Transaction.{Transaction}
+use Rattle.hv_stands.specs.hv_history.specs.State.{State, Job, numbered, acted, after, changed, changed_at, given_id, owned, forgot, unless_ended, while_open}
+use Rattle.hv_stands.specs.hv_history.specs.Legal.{is_open}
 use Rattle.hv_stands.specs.Files.{AreEncoded, IsLoose, IsOwn, IsUndone, ending_of, own_dir}
 use Rattle.hv_stands.proofs.Numbers.{either, numbered-more}
-use Rattle.hv_history.specs.Jobs.{first_open, if_below, is_past_by, is_past}
+use Rattle.hv_stands.specs.hv_history.specs.Jobs.{first_open, if_below, is_past_by, is_past}
 use Rattle.hv_law_made.specs.Made.{made_recs}
 use Rattle.hv_law_made.specs.Named.{AllHaveNames}
 use Rattle.hv_law_made.specs.Standing.{is_live_table, is_live_at, Standing}

@@ -9,19 +9,19 @@ use Rattle.hv_dirs.specs.declared.names.DirName.TheVariants as dir
 use Rattle.hv_dirs.specs.Names.{IsName, text_of, write_end}
 use Rattle.hv_dirs.proofs.NameLemmas as texts
 use Rattle.hv_dirs.proofs.OwnNames.{behind}
-use Rattle.hv_history.specs.declared.entry.JobKind.{JobKind}
-use Rattle.hv_history.specs.declared.entry.JobKind.TheVariants as kind
-use Rattle.hv_history.specs.declared.state.Ending.{Ending}
-use Rattle.hv_history.specs.declared.state.Ending.TheVariants as ending
-use Rattle.hv_history.specs.declared.state.Table.{Table}
-use Rattle.hv_history.specs.declared.state.Written.{Written}
-use Rattle.hv_history.specs.State.{State, Job, numbered}
+use Rattle.hv_stands.specs.hv_history.specs.declared.entry.JobKind.{JobKind}
+use Rattle.hv_stands.specs.hv_history.specs.declared.entry.JobKind.TheVariants as kind
+use Rattle.hv_stands.specs.hv_history.specs.declared.state.Ending.{Ending}
+use Rattle.hv_stands.specs.hv_history.specs.declared.state.Ending.TheVariants as ending
+use Rattle.hv_stands.specs.hv_history.specs.declared.state.Table.{Table}
+use Rattle.hv_stands.specs.hv_history.specs.declared.state.Written.{Written}
+use Rattle.hv_stands.specs.hv_history.specs.State.{State, Job, numbered}
 use Rattle.hv_stands.specs.Files as stands
 use Rattle.hv_stands.specs.Files.{ending_of, own_dir}
 use Rattle.hv_stands.specs.Sound.{IsDone, IsOfCommitted}
 use Rattle.hv_stands.proofs.Numbers.{same_one}
 use Rattle.hv_stands.proofs.Soundness.{all-numbered}
-use Rattle.hv_history.specs.Jobs.{is_job_of}
+use Rattle.hv_stands.specs.hv_history.specs.Jobs.{is_job_of}
 use Rattle.hv_jobs.specs.Covers.{names_by, job_names}
 use Rattle.hv_law_made.specs.Made.{write_names, names_in, jobs_at, recs_in, made_recs, is_spare_in, is_spare, is_gone_in, is_gone}
 use Rattle.hv_law_made.specs.Named.{HasNames}

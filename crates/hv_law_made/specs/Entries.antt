@@ -10,15 +10,15 @@ use Rattle.hv_shelf.specs.Places.{is_in, place_named}
 use Rattle.hv_dirs.specs.declared.names.DirName.{DirName}
 use Rattle.hv_dirs.specs.declared.names.DirName.TheVariants.{Staged}
 use Rattle.hv_dirs.specs.Names.{statement_end, write_end, text_of}
-use Rattle.hv_history.specs.declared.entry.Entry.{Entry}
-use Rattle.hv_history.specs.declared.entry.Entry.TheVariants as entry
-use Rattle.hv_history.specs.declared.state.Ending.{Ending}
-use Rattle.hv_history.specs.declared.state.Ending.TheVariants.{Aborted}
-use Rattle.hv_history.specs.declared.state.Table.{Table}
-use Rattle.hv_history.specs.declared.state.Written.{Written}
-use Rattle.hv_history.specs.State.{State, Job, numbered, after, nothing_yet, state_of}
-use Rattle.hv_history.specs.Legal.{is_working, Fits, AllFit}
-use Rattle.hv_history.specs.Jobs.{pieces_for, is_empty_of}
+use Rattle.hv_stands.specs.hv_history.specs.declared.entry.Entry.{Entry}
+use Rattle.hv_stands.specs.hv_history.specs.declared.entry.Entry.TheVariants as entry
+use Rattle.hv_stands.specs.hv_history.specs.declared.state.Ending.{Ending}
+use Rattle.hv_stands.specs.hv_history.specs.declared.state.Ending.TheVariants.{Aborted}
+use Rattle.hv_stands.specs.hv_history.specs.declared.state.Table.{Table}
+use Rattle.hv_stands.specs.hv_history.specs.declared.state.Written.{Written}
+use Rattle.hv_stands.specs.hv_history.specs.State.{State, Job, numbered, after, nothing_yet, state_of}
+use Rattle.hv_stands.specs.hv_history.specs.Legal.{is_working, Fits, AllFit}
+use Rattle.hv_stands.specs.hv_history.specs.Jobs.{pieces_for, is_empty_of}
 use Rattle.hv_stands.specs.Files.{ending_of}
 use Rattle.hv_stands.specs.Sound.{IsSound}
 use Rattle.hv_jobs.specs.Covers.{range_names}

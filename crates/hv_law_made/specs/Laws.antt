@@ -12,15 +12,15 @@ use Rattle.hv_shelf.specs.Disk.{Tree}
 use Rattle.hv_rowfile.specs.declared.record.Rec.{Rec}
 use Rattle.hv_dirs.specs.declared.names.DirName.{DirName}
 use Rattle.hv_dirs.specs.Names.{IsName, is_compacted, text_of}
-use Rattle.hv_history.specs.declared.entry.Entry.{Entry}
-use Rattle.hv_history.specs.declared.entry.Entry.TheVariants as entry
-use Rattle.hv_history.specs.declared.entry.JobKind.{JobKind}
-use Rattle.hv_history.specs.declared.state.Table.{Table}
-use Rattle.hv_history.specs.declared.state.Written.{Written}
-use Rattle.hv_history.specs.State.{State, Job, numbered, after}
+use Rattle.hv_stands.specs.hv_history.specs.declared.entry.Entry.{Entry}
+use Rattle.hv_stands.specs.hv_history.specs.declared.entry.Entry.TheVariants as entry
+use Rattle.hv_stands.specs.hv_history.specs.declared.entry.JobKind.{JobKind}
+use Rattle.hv_stands.specs.hv_history.specs.declared.state.Table.{Table}
+use Rattle.hv_stands.specs.hv_history.specs.declared.state.Written.{Written}
+use Rattle.hv_stands.specs.hv_history.specs.State.{State, Job, numbered, after}
 use Rattle.hv_stands.specs.Files.{AreEncoded, IsLoose, IsOwn, IsUndone, ending_of, own_dir}
-use Rattle.hv_history.specs.Jobs.{is_job_of, is_past}
-use Rattle.hv_history.specs.JobsFit.{PublishedFits}
+use Rattle.hv_stands.specs.hv_history.specs.Jobs.{is_job_of, is_past}
+use Rattle.hv_stands.specs.hv_history.specs.JobsFit.{PublishedFits}
 use Rattle.hv_jobs.specs.Covers.{range_names, job_names, covers}
 use Rattle.hv_law_jobs.specs.Sound.{AreSoundJobs}
 use Rattle.hv_law_made.specs.Made.{made_recs, made_names, names_in, is_spare, is_gone, jobs_at}

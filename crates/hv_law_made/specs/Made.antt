@@ -19,11 +19,11 @@ use Rattle.hv_dirs.specs.declared.names.DirName.{DirName}
 use Rattle.hv_dirs.specs.declared.names.DirName.TheVariants as dir
 use Rattle.hv_dirs.specs.Names.{text_of}
 use Rattle.hv_dirs.specs.Choice.{Delta, Own, Wide}
-use Rattle.hv_history.specs.declared.state.Table.{Table}
-use Rattle.hv_history.specs.declared.state.Written.{Written}
-use Rattle.hv_history.specs.State.{State, Job, content_of, numbered}
+use Rattle.hv_stands.specs.hv_history.specs.declared.state.Table.{Table}
+use Rattle.hv_stands.specs.hv_history.specs.declared.state.Written.{Written}
+use Rattle.hv_stands.specs.hv_history.specs.State.{State, Job, content_of, numbered}
 use Rattle.hv_stands.specs.Files.{records_of}
-use Rattle.hv_history.specs.Jobs.{jobs_of}
+use Rattle.hv_stands.specs.hv_history.specs.Jobs.{jobs_of}
 use Rattle.hv_jobs.specs.Covers.{job_names, is_freed, is_cleaned_away}
 
 -- ---- the records of a directory in a bucket

@@ -3,9 +3,9 @@
 use Rattle.std.specs.Prelude.{◌≡◌, ℕ, ◌<◌, Option, Some, None, IsSome, map}
 use Rattle.std.specs.List.{AllByRecursion}
 use Rattle.hv_dirs.specs.Names.{IsNumber, IsRange, statement_end, write_end}
-use Rattle.hv_history.specs.declared.state.Table.{Table}
-use Rattle.hv_history.specs.declared.state.Written.{Written}
-use Rattle.hv_history.specs.State.{State, Job, numbered}
+use Rattle.hv_stands.specs.hv_history.specs.declared.state.Table.{Table}
+use Rattle.hv_stands.specs.hv_history.specs.declared.state.Written.{Written}
+use Rattle.hv_stands.specs.hv_history.specs.State.{State, Job, numbered}
 use Rattle.hv_stands.specs.Files.{ending_of}
 use Rattle.hv_stands.specs.Sound.{AreOfCommitted}
 

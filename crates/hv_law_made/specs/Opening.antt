@@ -10,15 +10,15 @@ use Rattle.hv_shelf.specs.Disk.{Tree, places_of}
 use Rattle.hv_shelf.specs.Places.{is_in}
 use Rattle.hv_dirs.specs.declared.names.DirName.{DirName}
 use Rattle.hv_dirs.specs.Names.{text_of, write_end}
-use Rattle.hv_history.specs.declared.entry.Entry.{Entry}
-use Rattle.hv_history.specs.declared.entry.Entry.TheVariants as entry
-use Rattle.hv_history.specs.declared.entry.JobCause.{JobCause}
-use Rattle.hv_history.specs.declared.entry.JobCause.TheVariants as job_cause
-use Rattle.hv_history.specs.declared.state.Written.{Written}
-use Rattle.hv_history.specs.State.{State, Job, numbered, after}
-use Rattle.hv_history.specs.Legal.{is_working, working_one}
-use Rattle.hv_history.specs.Jobs.{pieces_for, is_empty_of}
-use Rattle.hv_history.specs.JobsFit.{is_live_job}
+use Rattle.hv_stands.specs.hv_history.specs.declared.entry.Entry.{Entry}
+use Rattle.hv_stands.specs.hv_history.specs.declared.entry.Entry.TheVariants as entry
+use Rattle.hv_stands.specs.hv_history.specs.declared.entry.JobCause.{JobCause}
+use Rattle.hv_stands.specs.hv_history.specs.declared.entry.JobCause.TheVariants as job_cause
+use Rattle.hv_stands.specs.hv_history.specs.declared.state.Written.{Written}
+use Rattle.hv_stands.specs.hv_history.specs.State.{State, Job, numbered, after}
+use Rattle.hv_stands.specs.hv_history.specs.Legal.{is_working, working_one}
+use Rattle.hv_stands.specs.hv_history.specs.Jobs.{pieces_for, is_empty_of}
+use Rattle.hv_stands.specs.hv_history.specs.JobsFit.{is_live_job}
 use Rattle.hv_jobs.specs.Covers.{range_names}
 use Rattle.hv_jobs.specs.Finals.{unless_bare, finals_of}
 use Rattle.hv_law_made.specs.Laws.{IsFiledFor, is_quiet_entry}

@@ -9,10 +9,10 @@ use Rattle.hv_rowfile.specs.declared.record.Rec.{Rec}
 use Rattle.hv_rowfile.specs.Layout.{IsFile, file_spelling}
 use Rattle.hv_dirs.specs.declared.names.DirName.TheVariants.{Staged}
 use Rattle.hv_dirs.specs.Names.{IsStagedAs, text_of}
-use Rattle.hv_history.specs.declared.state.Table.{Table}
-use Rattle.hv_history.specs.State.{State, Job, numbered}
+use Rattle.hv_stands.specs.hv_history.specs.declared.state.Table.{Table}
+use Rattle.hv_stands.specs.hv_history.specs.State.{State, Job, numbered}
 use Rattle.hv_stands.specs.Files.{AreEncoded, IsLoose}
-use Rattle.hv_history.specs.Jobs.{is_job_of}
+use Rattle.hv_stands.specs.hv_history.specs.Jobs.{is_job_of}
 use Rattle.hv_law_made.specs.Made.{made_recs, is_spare, is_gone}
 
 -- ---- files

@@ -3,9 +3,9 @@
 use Rattle.std.specs.Prelude.{◌≡◌, ◌+◌, ◌<◌, ◌&&◌, true, false, List, ◌∷◌, ◌++◌, fold, length, sum_by}
 use Rattle.hv_shelf.specs.Disk.{Tree}
 use Rattle.hv_dirs.specs.Names.{write_end}
-use Rattle.hv_history.specs.State.{State, Job, after}
-use Rattle.hv_history.specs.Legal.{is_working, working_one}
-use Rattle.hv_history.specs.JobsFit.{is_live_job}
+use Rattle.hv_stands.specs.hv_history.specs.State.{State, Job, after}
+use Rattle.hv_stands.specs.hv_history.specs.Legal.{is_working, working_one}
+use Rattle.hv_stands.specs.hv_history.specs.JobsFit.{is_live_job}
 use Rattle.hv_law_made.specs.Entries.{IsSoundBook, Recovers}
 use Rattle.hv_law_made.specs.Opening.{whole_jobs, is_to_publish, job_ends, failing_dirs, SomeGo, JobsGo, FinalsAgree}
 

@@ -25,8 +25,8 @@ use Rattle.hv_stands.proofs.Soundness.{all-mapped, all-numbered}
 use Rattle.hv_stands.proofs.Places.{same-place, place-tied, other-place}
 use Rattle.hv_stands.proofs.Behind.{entries-are}
 use Rattle.hv_stands.proofs.OwnFiles.{unowned-id}
-use Rattle.hv_law_made.specs.Standing.{Standing}
-use Rattle.hv_law_made.proofs.BookLemmas.{books-are-sound}
+use Rattle.hv_law_filed.specs.hv_law_made.specs.Standing.{Standing}
+use Rattle.hv_law_filed.specs.hv_law_made.proofs.BookLemmas.{books-are-sound}
 use Rattle.hv_law_filed.proofs.NewIds.{new-ids-bare}
 use Rattle.hv_trail.specs.declared.trail.TrailItem.{TrailItem}
 use Rattle.hv_trail.specs.declared.trail.TrailItem.TheVariants.{Noted, Marked}

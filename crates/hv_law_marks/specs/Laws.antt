@@ -18,7 +18,7 @@ use Rattle.hv_history.specs.Legal.{Fits, AllFit}
 use Rattle.hv_dirs.specs.Names.{write_end}
 use Rattle.hv_stands.specs.Laws.{HasFile}
 use Rattle.hv_stands.specs.Running.{Asking, meant, IsUnderWay, IsOfId, HasPut}
-use Rattle.hv_law_made.specs.Standing.{Standing}
+use Rattle.hv_law_filed.specs.hv_law_made.specs.Standing.{Standing}
 use Rattle.hv_trail.specs.declared.trail.Reader.{Reader}
 use Rattle.hv_trail.specs.declared.trail.Mark.TheVariants.{Wrote, Broke}
 use Rattle.hv_trail.specs.declared.trail.TrailItem.{TrailItem}

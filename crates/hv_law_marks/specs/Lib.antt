@@ -1,2 +1,3 @@
+pub use Rattle.hv_law_filed as hv_law_filed
 pub mod Marked
 pub mod Laws

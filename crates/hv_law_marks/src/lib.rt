@@ -1,6 +1,8 @@
 //! What the marks of a house's trail say of the files in its store.
 #![tactic(auto)]
 
+pub use hv_law_filed;
+
 mod laws;
 
 pub use laws::{

@@ -3,20 +3,23 @@ use Rattle.std.proofs.Common.{◌≡◌, ℕ, Option, Some, None, List, refl, ap
 use Rattle.std.specs.Prelude.{Bool, true, false, if◌then◌else◌}
 use Rattle.hv_base.specs.declared.gate.Stage.{Stage}
 use Rattle.hv_base.specs.declared.gate.Stage.TheVariants as stage
+use Rattle.hv_base.specs.declared.ids.TableId.{TableId}
 use Rattle.hv_base.specs.declared.ids.Touch.{Touch}
+use Rattle.hv_ast.specs.declared.table.CompactionKind.{CompactionKind}
 use Rattle.hv_logic.specs.declared.catalog.TableInfo.{TableInfo}
 use Rattle.hv_logic.specs.declared.effect.Effect.{Effect}
 use Rattle.hv_logic.specs.declared.meaning.Meaning.{Meaning}
-use Rattle.hv_logic.specs.declared.meaning.Meaning.TheVariants.{Refused, Listing, Change, Make, Unmake, Plain, Twice, RowLimit, PartitionLimit}
+use Rattle.hv_logic.specs.declared.meaning.Meaning.TheVariants.{Refused, Listing, Change, Make, Unmake, Ask, Plain, Twice, RowLimit, PartitionLimit}
 use Rattle.hv_route.specs.Touching.{touches_of}
 use Rattle.hv_history.specs.declared.entry.Entry.{Entry}
 use Rattle.hv_history.specs.declared.entry.Cause.TheVariants as cause
 use Rattle.hv_history.specs.declared.state.Transaction.{Transaction}
+use Rattle.hv_history.specs.JobsTrue.{ask_of, stands_for}
 use Rattle.hv_history.specs.State.{State, meaning}
 use Rattle.hv_history.specs.Asking.{asked_by}
 use Rattle.hv_history.specs.Legal.{IsRunning, HasAsked, place_of_snapshot}
 use Rattle.hv_stands.proofs.Keeping.{still-open}
-use Rattle.hv_law_next.specs.Next.{Meeting, abort, first_met, lacks_room, needs_id, giving, ending_change, changing, asking_or_end, by_meaning, by_start, by_ending, next_of, if_before, due_of}
+use Rattle.hv_law_next.specs.Next.{Meeting, abort, first_met, lacks_room, needs_id, giving, ending_change, changing, asking_or_end, asking_job, compacting, by_meaning, by_start, by_ending, next_of, if_before, due_of}
 use Rattle.hv_law_next.specs.Carrying.{IsUnrefused, IsToCommit, IsAtHold, HasAskedAt, StaysAtHold}
 
 none-start : (o : Option Entry) → if_before (Some stage.Start) true o ≡ None
@@ -48,6 +51,15 @@ module _ (state : State) (txn : ℕ) (t : Transaction) where
   by-read-idle None = refl
   by-read-idle (Some other) = refl
 
+  by-read-ask : (table : TableId) (partition : List ℕ) (kind : CompactionKind) (b : Bool)
+      → if_before (Some stage.Read) true (Some (compacting state txn table partition kind b)) ≡ None
+  by-read-ask table partition kind true = refl
+  by-read-ask table partition kind false = by (lacks_room state 1)
+    where
+      by : (c : Bool) → if_before (Some stage.Read) true (Some (if c then abort txn cause.Full else asking_job state txn table partition kind)) ≡ None
+      by true = refl
+      by false = refl
+
   by-read : (o : Option Meaning) → IsUnrefused o → if_before (Some stage.Read) true (by_meaning state txn t o) ≡ None
   by-read None at = refl
   by-read (Some (Refused why)) at = absurd at
@@ -55,6 +67,7 @@ module _ (state : State) (txn : ℕ) (t : Transaction) where
   by-read (Some (Change info effect)) at = unread info effect (needs_id t.given (Some (Change info effect)))
   by-read (Some (Make shape)) at = refl
   by-read (Some (Unmake table)) at = refl
+  by-read (Some (Ask table partition kind)) at = by-read-ask table partition kind (stands_for state t (ask_of table partition kind))
   by-read (Some Plain) at = by-read-idle (asked_by state txn t)
   by-read (Some (Twice region row)) at = refl
   by-read (Some RowLimit) at = refl
@@ -73,6 +86,8 @@ module _ (state : State) (txn : ℕ) (t : Transaction) where
       ∙ committing (touches_of info effect) (first_met (place_of_snapshot t.snapshot) (touches_of info effect) 1 state.transactions)
   by-commit (Some (Make shape)) at all = refl
   by-commit (Some (Unmake table)) at all = refl
+  by-commit (Some (Ask table partition kind)) at all =
+      ap (λ (b : Bool). if_before (Some stage.Commit) true (Some (compacting state txn table partition kind b))) all
   by-commit (Some Plain) at all = ap (λ o. if_before (Some stage.Commit) true (Some (asking_or_end txn o))) all
   by-commit (Some (Twice region row)) at all = absurd at
   by-commit (Some RowLimit) at all = absurd at

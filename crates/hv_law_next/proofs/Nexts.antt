@@ -1,32 +1,40 @@
 -- Each entry of a transaction that is legal, and in order, is the one that one thread adds next for it; behind it fewer are left.
 use Rattle.std.proofs.Common.{◌≡◌, ℕ, ◌+◌, ◌<◌, ◌≤◌, ◌⊎◌, inl, inr, Option, Some, None, List, [], ◌∷◌, ◌++◌, length, refl, sym, ap, ◌∙◌, subst, arith}
-use Rattle.std.specs.Prelude.{if◌then◌else◌, Bool, true, false, ◌||◌, IsTrue, IsFalse, IsSome, IsSomeAnd, is_some}
+use Rattle.std.specs.Prelude.{if◌then◌else◌, ◌==◌, ◌&&◌, nat_eq, Bool, true, false, ◌||◌, IsTrue, IsFalse, IsSome, IsSomeAnd, is_some}
 use Rattle.std.specs.List.{list_any, AllByRecursion}
-use Rattle.std.proofs.lemmas.Bool.{le-ltb, lt-ltb}
+use Rattle.std.specs.Cmp.Lexicographic.{pointwise}
+use Rattle.std.proofs.lemmas.Bool.{le-ltb, lt-ltb, eq-eqb}
 use Rattle.hv_base.specs.Refusals as refusals
 use Rattle.hv_base.specs.declared.ids.TxnId.{TxnId}
+use Rattle.hv_base.specs.declared.ids.JobId.{JobId}
 use Rattle.hv_base.specs.declared.ids.TableId.{TableId}
 use Rattle.hv_base.specs.declared.ids.WriteId.{WriteId}
 use Rattle.hv_base.specs.declared.ids.Touch.{Touch}
+use Rattle.hv_ast.specs.declared.table.CompactionKind.{CompactionKind}
 use Rattle.hv_locks.specs.declared.table.Lock.{Lock}
 use Rattle.hv_logic.specs.declared.catalog.TableInfo.{TableInfo}
 use Rattle.hv_logic.specs.declared.effect.Effect.{Effect}
 use Rattle.hv_logic.specs.declared.meaning.Meaning.{Meaning}
-use Rattle.hv_logic.specs.declared.meaning.Meaning.TheVariants.{Refused, Listing, Change, Make, Unmake, Plain, Twice, RowLimit, PartitionLimit}
+use Rattle.hv_logic.specs.declared.meaning.Meaning.TheVariants.{Refused, Listing, Change, Make, Unmake, Ask, Plain, Twice, RowLimit, PartitionLimit}
 use Rattle.hv_route.specs.Touching.{touches_of}
 use Rattle.hv_route.proofs.StandingLemmas.{touches-are-of-rows}
 use Rattle.hv_history.specs.declared.entry.Entry.{Entry}
 use Rattle.hv_history.specs.declared.entry.Entry.TheVariants as entry
 use Rattle.hv_history.specs.declared.entry.Cause.{Cause}
 use Rattle.hv_history.specs.declared.entry.Cause.TheVariants as cause
+use Rattle.hv_history.specs.declared.entry.JobKind.{JobKind}
 use Rattle.hv_history.specs.declared.state.Ending.{Ending}
 use Rattle.hv_history.specs.declared.state.Ending.TheVariants.{Committed, Aborted, Made, Dropped}
 use Rattle.hv_history.specs.declared.state.Table.{Table}
 use Rattle.hv_history.specs.declared.state.Snapshot.{Snapshot}
 use Rattle.hv_history.specs.declared.state.Transaction.{Transaction}
 use Rattle.hv_history.specs.Asking.{numbers_in, opened_before, asked_by}
-use Rattle.hv_history.specs.State.{State, numbered, meaning, opening_tree, given_in, first_of, meant_in, started, given_id, committed, ended, changed, while_open, acted, after, state_of}
-use Rattle.hv_history.specs.Legal.{Of, Fits, IsTruthful, is_started, locks_of, holds_against, first_holder, IsRunning, IsOwnTouch, StartFits, GivenFits, CommitFits, CreateFits, DropFits, CauseFits, FullFits, RequestFits, CauseIsTrue, TouchesAreMeant, HasAsked, CommitIsTrue, IsMake, NeedsId, IsRefusedAs, ConflictIsTrue, IsFirstConflict, asks_to_abort, place_of_snapshot, HasRoom, load, profile}
+use Rattle.hv_history.specs.Jobs.{is_job_of}
+use Rattle.hv_history.specs.JobsFit.{IsAsker, AskedFits, name_in}
+use Rattle.hv_history.specs.JobsTrue.{Ask as AskedFor, ask_of, asks_by, stands_for, AsksNow}
+use Rattle.hv_history.proofs.JobsStay.{its-job, stands-behind}
+use Rattle.hv_history.specs.State.{State, numbered, meaning, opening_tree, given_in, first_of, meant_in, started, given_id, committed, ended, asked_job, changed, while_open, acted, after, state_of}
+use Rattle.hv_history.specs.Legal.{Of, Fits, IsTruthful, is_started, locks_of, holds_against, first_holder, IsRunning, IsOwnTouch, StartFits, GivenFits, CommitFits, CreateFits, DropFits, CauseFits, FullFits, RequestFits, CauseIsTrue, TouchesAreMeant, HasAsked, CommitIsTrue, IsMake, NeedsId, NeedsRoom, IsRefusedAs, ConflictIsTrue, IsFirstConflict, asks_to_abort, place_of_snapshot, HasRoom, load, profile}
 use Rattle.hv_history.proofs.LastingLaws.{same-changed}
 use Rattle.hv_stands.specs.Sound.{IsSound}
 use Rattle.hv_stands.specs.Running.{IsOf, IsOwnCause}
@@ -34,7 +42,7 @@ use Rattle.hv_stands.proofs.Numbers.{found, one_value, numbered-within}
 use Rattle.hv_stands.proofs.Soundness.{all-mapped}
 use Rattle.hv_stands.proofs.Keeping.{still-open, open-here}
 use Rattle.hv_stands.proofs.Fitting.{cause-open}
-use Rattle.hv_law_next.specs.Next.{start, abort, commit, lacks_room, starting, first_met, needs_id, next_write, giving, ending_change, changing, asking_or_end, by_meaning, by_start, by_ending, next_of}
+use Rattle.hv_law_next.specs.Next.{start, abort, commit, lacks_room, starting, first_met, needs_id, next_write, giving, ending_change, changing, asking_or_end, asking_job, compacting, by_meaning, by_start, by_ending, next_of}
 use Rattle.hv_law_next.specs.Order.{IsOfTable, AsksForId, HasItsId, IsUnheld, IsFaultless, IsSteady, AsksInOrder, CauseInOrder, IsInOrder}
 use Rattle.hv_law_next.specs.Carrying.{IsRunningStore}
 use Rattle.hv_law_next.proofs.Meetings.{none-met, first-is-met}
@@ -76,6 +84,7 @@ needs-true [] (Some (Refused why)) needs = absurd needs
 needs-true [] (Some (Listing names rows)) needs = absurd needs
 needs-true [] (Some (Make shape)) needs = absurd needs
 needs-true [] (Some (Unmake table)) needs = absurd needs
+needs-true [] (Some (Ask table region kind)) needs = absurd needs
 needs-true [] (Some Plain) needs = absurd needs
 needs-true [] (Some (Twice region row)) needs = absurd needs
 needs-true [] (Some RowLimit) needs = absurd needs
@@ -102,8 +111,14 @@ wrote-given info effect [] (touch ∷ wrote) are own = absurd (none-given touch.
 abbrev pub listed : Transaction → ℕ
 listed t = length (numbers_in (opening_tree t))
 
+-- a job that it has to ask for still
+abbrev pub unasked : Bool → ℕ
+unasked true = 0
+unasked false = 1
+
 abbrev pub left_by : State → ℕ → Transaction → Option Meaning → ℕ
 left_by s txn t (Some Plain) = count_asked s.transactions txn (opened_before t.snapshot) (numbers_in (opening_tree t))
+left_by s txn t (Some (Ask table partition kind)) = unasked (stands_for s t (ask_of table partition kind))
 left_by s txn t o = 0
 
 abbrev pub rank_by : Option Ending → Bool → Bool → ℕ → ℕ → ℕ
@@ -115,14 +130,23 @@ rank_by None true false most left = 1 + left
 abbrev pub rank : State → ℕ → Transaction → ℕ
 rank s txn t = rank_by t.ending (is_started t) (needs_id t.given (meaning t)) (listed t) (left_by s txn t (meaning t))
 
-left-within : (s : State) (txn : ℕ) (t : Transaction) (o : Option Meaning) → left_by s txn t o ≤ listed t
+unasked-most : (b : Bool) → unasked b ≤ 1
+unasked-most true = omega arith
+unasked-most false = omega arith
+
+left-within : (s : State) (txn : ℕ) (t : Transaction) (o : Option Meaning) → left_by s txn t o ≤ 1 + listed t
 left-within s txn t None = omega arith
 left-within s txn t (Some (Refused why)) = omega arith
 left-within s txn t (Some (Listing names rows)) = omega arith
 left-within s txn t (Some (Change info effect)) = omega arith
 left-within s txn t (Some (Make shape)) = omega arith
 left-within s txn t (Some (Unmake table)) = omega arith
-left-within s txn t (Some Plain) = count-within s.transactions txn (opened_before t.snapshot) (numbers_in (opening_tree t))
+left-within s txn t (Some (Ask table partition kind)) =
+    let one = unasked-most (stands_for s t (ask_of table partition kind)) in
+    omega (arith, one)
+left-within s txn t (Some Plain) =
+    let within = count-within s.transactions txn (opened_before t.snapshot) (numbers_in (opening_tree t)) in
+    omega (arith, within)
 left-within s txn t (Some (Twice region row)) = omega arith
 left-within s txn t (Some RowLimit) = omega arith
 left-within s txn t (Some PartitionLimit) = omega arith
@@ -135,6 +159,7 @@ left-of-table s txn t table (Some (Listing names rows)) its = absurd its
 left-of-table s txn t table (Some (Change info effect)) its = refl
 left-of-table s txn t table (Some (Make shape)) its = absurd its
 left-of-table s txn t table (Some (Unmake other)) its = absurd its
+left-of-table s txn t table (Some (Ask other region kind)) its = absurd its
 left-of-table s txn t table (Some Plain) its = absurd its
 left-of-table s txn t table (Some (Twice region row)) its = absurd its
 left-of-table s txn t table (Some RowLimit) its = absurd its
@@ -144,19 +169,23 @@ plain-needs : (given : List (ℕ × ℕ)) → needs_id given (Some Plain) ≡ fa
 plain-needs [] = refl
 plain-needs (x ∷ given) = refl
 
+ask-needs : (given : List (ℕ × ℕ)) (table : TableId) (partition : List ℕ) (kind : CompactionKind) → needs_id given (Some (Ask table partition kind)) ≡ false
+ask-needs [] table partition kind = refl
+ask-needs (x ∷ given) table partition kind = refl
+
 rank-open : (b c : Bool) (most left : ℕ) → 1 ≤ rank_by None b c most left
 rank-open false c most left = omega arith
 rank-open true true most left = omega arith
 rank-open true false most left = omega arith
 
-rank-started : (c : Bool) (most left : ℕ) → left ≤ most → rank_by None true c most left ≤ 2 + most
+rank-started : (c : Bool) (most left : ℕ) → left ≤ 1 + most → rank_by None true c most left ≤ 2 + most
 rank-started true most left within = omega arith
 rank-started false most left within = omega (arith, within)
 
 pub rank-within : (s : State) (txn : ℕ) (t : Transaction) → rank s txn t ≤ 3 + listed t
 rank-within s txn t = by t.ending (is_started t) (needs_id t.given (meaning t)) (left_by s txn t (meaning t)) (left-within s txn t (meaning t))
   where
-    by : (o : Option Ending) (b c : Bool) (left : ℕ) → left ≤ listed t → rank_by o b c (listed t) left ≤ 3 + listed t
+    by : (o : Option Ending) (b c : Bool) (left : ℕ) → left ≤ 1 + listed t → rank_by o b c (listed t) left ≤ 3 + listed t
     by (Some e) b c left within = omega arith
     by None false c left within = omega arith
     by None true true left within = omega arith
@@ -172,6 +201,32 @@ is-started-behind s statement t = by t.snapshot
     by : (o : Option Snapshot) → is_some (first_of o (record { place = s.entries; tables = s.tables; opened = length s.transactions })) ≡ true
     by None = refl
     by (Some snapshot) = refl
+
+-- ---- a job that is asked for
+
+abbrev asked_for : TableId → List ℕ → JobKind → AskedFor
+asked_for table partition kind = record { table = table.0; partition = partition; kind = kind }
+
+-- what asks for this means it
+record IsAskOf (o : Option Meaning) (ask : AskedFor) : Type 0 where
+  pub table : TableId
+  pub partition : List ℕ
+  pub kind : CompactionKind
+  pub is : o ≡ Some (Ask table partition kind)
+  pub same : ask_of table partition kind ≡ ask
+
+asks-is : (o : Option Meaning) (ask : AskedFor) → asks_by o ≡ Some ask → IsAskOf o ask
+asks-is (Some (Ask table partition kind)) ask e = record { table = table; partition = partition; kind = kind; is = refl; same = one_value _ _ e }
+asks-is None ask e = cc
+asks-is (Some (Refused why)) ask e = cc
+asks-is (Some (Listing names rows)) ask e = cc
+asks-is (Some (Change info effect)) ask e = cc
+asks-is (Some (Make shape)) ask e = cc
+asks-is (Some (Unmake table)) ask e = cc
+asks-is (Some Plain) ask e = cc
+asks-is (Some (Twice region row)) ask e = cc
+asks-is (Some RowLimit) ask e = cc
+asks-is (Some PartitionLimit) ask e = cc
 
 -- behind an entry of that transaction it is there, and fewer are left
 pub record HasFewer (txn most : ℕ) (now : State) : Type 0 where
@@ -228,6 +283,7 @@ module _ (book : List Entry) (txn : ℕ) (t : Transaction) (at : numbered (state
       by (Some (Listing names rows)) is needs its = absurd (subst (IsOfTable table) is its)
       by (Some (Make shape)) is needs its = absurd (subst (IsOfTable table) is its)
       by (Some (Unmake other)) is needs its = absurd (subst (IsOfTable table) is its)
+      by (Some (Ask other region kind)) is needs its = absurd (subst (IsOfTable table) is its)
       by (Some Plain) is needs its = absurd (subst (IsOfTable table) is its)
       by (Some (Twice region row)) is needs its = absurd (subst (IsOfTable table) is its)
       by (Some RowLimit) is needs its = absurd (subst (IsOfTable table) is its)
@@ -249,6 +305,11 @@ module _ (book : List Entry) (txn : ℕ) (t : Transaction) (at : numbered (state
       by (Some (Listing names rows)) is truth =
           let none : wrote ≡ [] = subst (TouchesAreMeant wrote) is truth in
           means (commit txn wrote) fits.running (Some (Listing names rows)) is (ap (λ ws. Some (commit txn ws)) (sym none))
+      by (Some (Ask table partition kind)) is truth =
+          let none : wrote ≡ [] = subst (TouchesAreMeant wrote) is truth in
+          let stands : stands_for s t (ask_of table partition kind) ≡ true = subst (HasAsked s txn t) is true_of.asked in
+          means (commit txn wrote) fits.running (Some (Ask table partition kind)) is
+          (ap (λ (b : Bool). Some (compacting s txn table partition kind b)) stands ∙ ap (λ ws. Some (commit txn ws)) (sym none))
       by (Some Plain) is truth =
           let none : wrote ≡ [] = subst (TouchesAreMeant wrote) is truth in
           let all : asked_by s txn t ≡ None = subst (HasAsked s txn t) is true_of.asked in
@@ -274,6 +335,7 @@ module _ (book : List Entry) (txn : ℕ) (t : Transaction) (at : numbered (state
       by (Some (Refused why)) is truth = absurd (subst IsMake is truth)
       by (Some (Listing names rows)) is truth = absurd (subst IsMake is truth)
       by (Some (Unmake other)) is truth = absurd (subst IsMake is truth)
+      by (Some (Ask other region kind)) is truth = absurd (subst IsMake is truth)
       by (Some Plain) is truth = absurd (subst IsMake is truth)
       by (Some (Twice region row)) is truth = absurd (subst IsMake is truth)
       by (Some RowLimit) is truth = absurd (subst IsMake is truth)
@@ -294,6 +356,7 @@ module _ (book : List Entry) (txn : ℕ) (t : Transaction) (at : numbered (state
       by (Some (Listing names rows)) is truth = absurd (subst (IsRefusedAs number) is truth)
       by (Some (Make shape)) is truth = absurd (subst (IsRefusedAs number) is truth)
       by (Some (Unmake table)) is truth = absurd (subst (IsRefusedAs number) is truth)
+      by (Some (Ask table region kind)) is truth = absurd (subst (IsRefusedAs number) is truth)
       by (Some Plain) is truth = absurd (subst (IsRefusedAs number) is truth)
       by (Some (Twice region row)) is truth = absurd (subst (IsRefusedAs number) is truth)
       by (Some RowLimit) is truth = absurd (subst (IsRefusedAs number) is truth)
@@ -321,6 +384,7 @@ module _ (book : List Entry) (txn : ℕ) (t : Transaction) (at : numbered (state
       by (Some (Listing names rows)) is truth = absurd (subst (ConflictIsTrue s other.0 table.0 partition t) is truth)
       by (Some (Make shape)) is truth = absurd (subst (ConflictIsTrue s other.0 table.0 partition t) is truth)
       by (Some (Unmake dropped)) is truth = absurd (subst (ConflictIsTrue s other.0 table.0 partition t) is truth)
+      by (Some (Ask of_table region kind)) is truth = absurd (subst (ConflictIsTrue s other.0 table.0 partition t) is truth)
       by (Some Plain) is truth = absurd (subst (ConflictIsTrue s other.0 table.0 partition t) is truth)
       by (Some (Twice region row)) is truth = absurd (subst (ConflictIsTrue s other.0 table.0 partition t) is truth)
       by (Some RowLimit) is truth = absurd (subst (ConflictIsTrue s other.0 table.0 partition t) is truth)
@@ -332,27 +396,41 @@ module _ (book : List Entry) (txn : ℕ) (t : Transaction) (at : numbered (state
       ∙ ap (λ o. Some (starting s txn o)) (order unstarted)
       ∙ ap (λ b. Some (if b then abort txn cause.Full else start txn)) (no-room s fits.full)
 
-  full-asked : FullFits profile s t → NeedsId t.given (meaning t) → is_started t ≡ true → next_of s txn t ≡ Some (abort txn cause.Full)
-  full-asked fits needs started_ = by (meaning t) refl (needs-true t.given (meaning t) needs)
+  full-asked : FullFits profile s t → NeedsRoom s t (meaning t) → is_started t ≡ true → next_of s txn t ≡ Some (abort txn cause.Full)
+  full-asked fits needs started_ = by (meaning t) refl
     where
-      unasked : (given : List (ℕ × ℕ)) → needs_id given None ≡ false
-      unasked [] = refl
-      unasked (x ∷ given) = refl
-
-      by : (o : Option Meaning) → meaning t ≡ o → needs_id t.given (meaning t) ≡ true → next_of s txn t ≡ Some (abort txn cause.Full)
-      by (Some (Change info effect)) is asks =
+      by : (o : Option Meaning) → meaning t ≡ o → next_of s txn t ≡ Some (abort txn cause.Full)
+      by (Some (Change info effect)) is =
+          let asks : needs_id t.given (Some (Change info effect)) ≡ true =
+          needs-true t.given (Some (Change info effect)) (subst (NeedsRoom s t) is needs) in
           means (abort txn cause.Full) (record { unended = fits.unended; started = started_ }) (Some (Change info effect)) is
-          (ap (λ b. Some (changing s txn t info effect b)) (sym (ap (needs_id t.given) is) ∙ asks)
-          ∙ ap (λ b. Some (if b then abort txn cause.Full else giving s txn info)) (no-room s fits.full))
-      by None is asks = absurd (never (needs_id t.given None) (unasked t.given) (sym (ap (needs_id t.given) is) ∙ asks))
-      by (Some (Refused why)) is asks = absurd (other-needs t.given (Some (Refused why)) (subst (NeedsId t.given) is needs) tt)
-      by (Some (Listing names rows)) is asks = absurd (other-needs t.given (Some (Listing names rows)) (subst (NeedsId t.given) is needs) tt)
-      by (Some (Make shape)) is asks = absurd (other-needs t.given (Some (Make shape)) (subst (NeedsId t.given) is needs) tt)
-      by (Some (Unmake table)) is asks = absurd (other-needs t.given (Some (Unmake table)) (subst (NeedsId t.given) is needs) tt)
-      by (Some Plain) is asks = absurd (other-needs t.given (Some Plain) (subst (NeedsId t.given) is needs) tt)
-      by (Some (Twice region row)) is asks = absurd (other-needs t.given (Some (Twice region row)) (subst (NeedsId t.given) is needs) tt)
-      by (Some RowLimit) is asks = absurd (other-needs t.given (Some RowLimit) (subst (NeedsId t.given) is needs) tt)
-      by (Some PartitionLimit) is asks = absurd (other-needs t.given (Some PartitionLimit) (subst (NeedsId t.given) is needs) tt)
+          (ap (λ b. Some (changing s txn t info effect b)) asks ∙ ap (λ b. Some (if b then abort txn cause.Full else giving s txn info)) (no-room s fits.full))
+      by (Some (Ask table partition kind)) is =
+          let asks : stands_for s t (ask_of table partition kind) ≡ false = subst (NeedsRoom s t) is needs in
+          means (abort txn cause.Full) (record { unended = fits.unended; started = started_ }) (Some (Ask table partition kind)) is
+          (ap (λ (b : Bool). Some (compacting s txn table partition kind b)) asks
+          ∙ ap (λ b. Some (if b then abort txn cause.Full else asking_job s txn table partition kind)) (no-room s fits.full))
+      by None is = absurd (other-needs t.given None (subst (NeedsRoom s t) is needs) tt)
+      by (Some (Refused why)) is = absurd (other-needs t.given (Some (Refused why)) (subst (NeedsRoom s t) is needs) tt)
+      by (Some (Listing names rows)) is = absurd (other-needs t.given (Some (Listing names rows)) (subst (NeedsRoom s t) is needs) tt)
+      by (Some (Make shape)) is = absurd (other-needs t.given (Some (Make shape)) (subst (NeedsRoom s t) is needs) tt)
+      by (Some (Unmake table)) is = absurd (other-needs t.given (Some (Unmake table)) (subst (NeedsRoom s t) is needs) tt)
+      by (Some Plain) is = absurd (other-needs t.given (Some Plain) (subst (NeedsRoom s t) is needs) tt)
+      by (Some (Twice region row)) is = absurd (other-needs t.given (Some (Twice region row)) (subst (NeedsRoom s t) is needs) tt)
+      by (Some RowLimit) is = absurd (other-needs t.given (Some RowLimit) (subst (NeedsRoom s t) is needs) tt)
+      by (Some PartitionLimit) is = absurd (other-needs t.given (Some PartitionLimit) (subst (NeedsRoom s t) is needs) tt)
+
+  -- a job that it asks for
+  asked-next : (job : JobId) (table : TableId) (partition : List ℕ) (kind : JobKind) → AskedFits profile s job.0 table.0 partition kind txn
+      → IsRunning t → AsksNow s (asked_for table partition kind) t → next_of s txn t ≡ Some (entry.Asked job table partition kind txn)
+  asked-next job table partition kind fits running asks =
+      let of = asks-is (meaning t) (asked_for table partition kind) asks.asks in
+      let idle : stands_for s t (ask_of of.table of.partition of.kind) ≡ false = ap (stands_for s t) of.same ∙ asks.now in
+      let number : job.0 ≡ length s.jobs + 1 = fits.next in
+      means (entry.Asked job table partition kind txn) running (Some (Ask of.table of.partition of.kind)) of.is
+      (ap (λ (b : Bool). Some (compacting s txn of.table of.partition of.kind b)) idle
+      ∙ ap (λ (b : Bool). Some (if b then abort txn cause.Full else asking_job s txn of.table of.partition of.kind)) (has-room s fits.room)
+      ∙ (λ i. Some (entry.Asked (record { 0 = sym number i }) (record { 0 = (of.same i).table }) (of.same i).partition (of.same i).kind txn)))
 
   request-next : (other : TxnId) → IsRunning t → AsksInOrder s other.0 txn t
       → next_of s txn t ≡ Some (entry.Abort other (cause.Request (record { 0 = txn })))
@@ -367,7 +445,7 @@ module _ (book : List Entry) (txn : ℕ) (t : Transaction) (at : numbered (state
   abort-next (cause.Request other) own running fits truth steady order = absurd own
   abort-next cause.Full own running fits truth steady order = by (is_started t) refl truth
     where
-      by : (b : Bool) → is_started t ≡ b → IsFalse (is_started t) ⊎ NeedsId t.given (meaning t) → next_of s txn t ≡ Some (abort txn cause.Full)
+      by : (b : Bool) → is_started t ≡ b → IsFalse (is_started t) ⊎ NeedsRoom s t (meaning t) → next_of s txn t ≡ Some (abort txn cause.Full)
       by false is either = full-unstarted fits order is
       by true is (inl unstarted) = absurd (never (is_started t) unstarted is)
       by true is (inr needs) = full-asked fits needs is
@@ -472,6 +550,32 @@ module _ (book : List Entry) (txn : ℕ) (t : Transaction) (at : numbered (state
         fewer = omega (arith, before, behind, fewer);
       }
 
+  -- the job that it asks for is busy then, and it has none left to ask for
+  asked-fewer : (job : JobId) (table : TableId) (partition : List ℕ) (kind : JobKind) → IsRunning t → AsksNow s (asked_for table partition kind) t
+      → HasFewer txn (rank s txn t) (after s (entry.Asked job table partition kind txn))
+  unfolding acted
+  asked-fewer job table partition kind running asks =
+      let none = still-open t running.unended in
+      let of = asks-is (meaning t) (asked_for table partition kind) asks.asks in
+      let now : State = after s (entry.Asked job table partition kind txn) in
+      let needs : needs_id t.given (meaning t) ≡ false = ap (needs_id t.given) of.is ∙ ask-needs t.given of.table of.partition of.kind in
+      let of_it : (x : State) → rank x txn t ≡ 1 + unasked (stands_for x t (asked_for table partition kind)) = λ x.
+      unended-rank x t none
+      ∙ ap (λ b. rank_by None b (needs_id t.given (meaning t)) (listed t) (left_by x txn t (meaning t))) running.started
+      ∙ ap (λ b. rank_by None true b (listed t) (left_by x txn t (meaning t))) needs
+      ∙ ap (λ o. 1 + left_by x txn t o) of.is
+      ∙ ap (λ (ask : AskedFor). 1 + unasked (stands_for x t ask)) of.same in
+      let before : rank s txn t ≡ 2 = of_it s ∙ ap (λ (b : Bool). 1 + unasked b) asks.now in
+      let behind : rank now txn t ≡ 1 =
+      of_it now
+      ∙ ap (λ (b : Bool). 1 + unasked b)
+      (stands-behind (asked_for table partition kind) t s.jobs (asked_job s.entries table.0 partition kind txn) (its-job s.entries table.0 partition kind txn) refl) in
+      record {
+        t = t;
+        there = at;
+        fewer = omega (arith, before, behind);
+      }
+
   commit-fewer : (wrote : List Touch) → CommitFits s wrote t → HasFewer txn (rank s txn t) (after s (entry.Commit (record { 0 = txn }) wrote))
   unfolding acted
   commit-fewer wrote fits =
@@ -504,6 +608,21 @@ pub record IsGood (txn : ℕ) (s : State) (event : Entry) : Type 0 where
   pub truth : IsTruthful s event
   pub steady : IsSteady event
   pub in_order : IsInOrder s event
+
+asked-is : (book : List Entry) (txn : ℕ) (t : Transaction) (at : numbered (state_of book).transactions txn ≡ Some t)
+    (job : JobId) (table : TableId) (partition : List ℕ) (kind : JobKind) (by_ : ℕ) → AskedFits profile (state_of book) job.0 table.0 partition kind txn
+    → 1 ≤ txn → by_ ≡ txn → (txn ≡ 0) ⊎ Of (state_of book) txn (IsAsker (name_in (numbered (state_of book).tables table.0)) kind)
+    → (by_ ≡ 0) ⊎ Of (state_of book) by_ (AsksNow (state_of book) (asked_for table partition kind))
+    → IsNext book txn t (entry.Asked job table partition kind txn)
+asked-is book txn t at job table partition kind by_ fits some same (inl nobody) truth = absurd (omega (arith, nobody, some))
+asked-is book txn t at job table partition kind by_ fits some same (inr asker) (inl nobody) = absurd (omega (arith, nobody, some, same))
+asked-is book txn t at job table partition kind by_ fits some same (inr asker) (inr asks) =
+    let its = here book txn t at (IsAsker (name_in (numbered (state_of book).tables table.0)) kind) (record { 0 = txn }) refl asker in
+    let now = here book txn t at (AsksNow (state_of book) (asked_for table partition kind)) (record { 0 = by_ }) same asks in
+    record {
+      next = asked-next book txn t at job table partition kind fits its.running now;
+      later = asked-fewer book txn t at job table partition kind its.running now;
+    }
 
 pub next-is : (book : List Entry) (txn : ℕ) (t : Transaction) (event : Entry) → numbered (state_of book).transactions txn ≡ Some t → IsSound (state_of book)
     → IsRunningStore (state_of book) → IsGood txn (state_of book) event → IsNext book txn t event
@@ -562,7 +681,13 @@ next-is book txn t (entry.Opened id session number text) at sound running good =
     let within = (numbered-within (state_of book).transactions txn t at).1 in
     absurd (omega (arith, same, next, within))
 next-is book txn t (entry.Boot run) at sound running good = let never_ : None ≡ Some txn = good.of_it in cc
-next-is book txn t (entry.Asked job table partition kind by_) at sound running good = let never_ : None ≡ Some txn = good.of_it in cc
+next-is book txn t (entry.Asked job table partition kind by_) at sound running good =
+    let same : by_ ≡ txn = one_value by_ txn good.of_it in
+    let fits : AskedFits profile (state_of book) job.0 table.0 partition kind txn =
+    subst (λ n. AskedFits profile (state_of book) job.0 table.0 partition kind n) same good.fits in
+    let within = (numbered-within (state_of book).transactions txn t at).0 in
+    subst (λ n. IsNext book txn t (entry.Asked job table partition kind n)) (sym same)
+    (asked-is book txn t at job table partition kind by_ fits within same fits.asker good.truth)
 next-is book txn t (entry.Picked job mark) at sound running good = let never_ : None ≡ Some txn = good.of_it in cc
 next-is book txn t (entry.Published job low high mark) at sound running good = let never_ : None ≡ Some txn = good.of_it in cc
 next-is book txn t (entry.Empty job) at sound running good = let never_ : None ≡ Some txn = good.of_it in cc

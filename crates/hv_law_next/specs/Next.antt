@@ -5,11 +5,13 @@ use Rattle.std.specs.Option.{option_map}
 use Rattle.hv_base.specs.Refusals as refusals
 use Rattle.hv_base.specs.declared.gate.Stage.{Stage}
 use Rattle.hv_base.specs.declared.gate.Stage.TheVariants as stage
+use Rattle.hv_base.specs.declared.ids.TableId.{TableId}
 use Rattle.hv_base.specs.declared.ids.Touch.{Touch}
+use Rattle.hv_ast.specs.declared.table.CompactionKind.{CompactionKind}
 use Rattle.hv_logic.specs.declared.catalog.TableInfo.{TableInfo}
 use Rattle.hv_logic.specs.declared.effect.Effect.{Effect}
 use Rattle.hv_logic.specs.declared.meaning.Meaning.{Meaning}
-use Rattle.hv_logic.specs.declared.meaning.Meaning.TheVariants.{Refused, Listing, Change, Make, Unmake, Plain, Twice, RowLimit, PartitionLimit}
+use Rattle.hv_logic.specs.declared.meaning.Meaning.TheVariants.{Refused, Listing, Change, Make, Unmake, Ask, Plain, Twice, RowLimit, PartitionLimit}
 use Rattle.hv_route.specs.Touching.{touches_of}
 use Rattle.hv_history.specs.declared.entry.Entry.{Entry}
 use Rattle.hv_history.specs.declared.entry.Entry.TheVariants as entry
@@ -20,6 +22,7 @@ use Rattle.hv_history.specs.declared.state.Ending.TheVariants.{Committed}
 use Rattle.hv_history.specs.declared.state.Table.{Table}
 use Rattle.hv_history.specs.declared.state.Transaction.{Transaction}
 use Rattle.hv_history.specs.Asking.{listed_in, asked_by}
+use Rattle.hv_history.specs.JobsTrue.{kind_of, ask_of, stands_for}
 use Rattle.hv_history.specs.State.{State, numbered, meaning, state_of}
 use Rattle.hv_history.specs.Legal.{is_started, locks_of, first_holder, first_shared, place_of_snapshot, load, profile}
 
@@ -101,6 +104,16 @@ abbrev pub asking_or_end : ℕ → Option ℕ → Entry
 asking_or_end txn None = commit txn []
 asking_or_end txn (Some other) = abort other (cause.Request (record { 0 = txn }))
 
+-- the end of what asks for a compaction: it commits where a job of the partition was busy behind its snapshot, and asks for one before
+abbrev pub asking_job : State → ℕ → TableId → List ℕ → CompactionKind → Entry
+asking_job state txn table partition kind =
+    entry.Asked (record { 0 = length state.jobs + 1 }) table partition (kind_of kind) txn
+
+abbrev pub compacting : State → ℕ → TableId → List ℕ → CompactionKind → Bool → Entry
+compacting state txn table partition kind true = commit txn []
+compacting state txn table partition kind false =
+    if lacks_room state 1 then abort txn cause.Full else asking_job state txn table partition kind
+
 abbrev pub by_meaning : State → ℕ → Transaction → Option Meaning → Option Entry
 by_meaning state txn transaction (Some (Refused why)) = Some (abort txn (cause.Refused (refusals.number why)))
 by_meaning state txn transaction (Some (Twice region row)) = Some (abort txn (cause.Twice region row))
@@ -108,6 +121,8 @@ by_meaning state txn transaction (Some RowLimit) = Some (abort txn cause.RowLimi
 by_meaning state txn transaction (Some PartitionLimit) = Some (abort txn cause.PartitionLimit)
 by_meaning state txn transaction (Some (Listing names rows)) = Some (commit txn [])
 by_meaning state txn transaction (Some Plain) = Some (asking_or_end txn (asked_by state txn transaction))
+by_meaning state txn transaction (Some (Ask table partition kind)) =
+    Some (compacting state txn table partition kind (stands_for state transaction (ask_of table partition kind)))
 by_meaning state txn transaction (Some (Make shape)) = Some (entry.Create (record { 0 = txn }) (record { 0 = length state.tables + 1 }))
 by_meaning state txn transaction (Some (Unmake table)) = Some (entry.Drop (record { 0 = txn }) table)
 by_meaning state txn transaction (Some (Change info effect)) =

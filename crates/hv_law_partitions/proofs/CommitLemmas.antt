@@ -12,7 +12,7 @@ use Rattle.hv_history.specs.declared.state.Table.{Table}
 use Rattle.hv_history.specs.declared.state.Transaction.{Transaction}
 use Rattle.hv_history.specs.State.{State, numbered, after, nothing_yet, state_of, content_of, content_in}
 use Rattle.hv_history.specs.Legal.{AllFit}
-use Rattle.hv_book.specs.Past.{owners_in, forgotten_in}
+use Rattle.hv_earlier.specs.hv_meta.specs.hv_book.specs.Past.{owners_in, forgotten_in}
 use Rattle.hv_earlier.specs.Fates as earlier_fates
 use Rattle.hv_earlier.specs.declared.fates.Fate as earlier
 use Rattle.hv_earlier.specs.declared.fates.Fate.TheVariants as fate

@@ -3,7 +3,7 @@ use Rattle.std.proofs.Common.{refl, ◌≡◌, ℕ, suc, ◌+◌, ◌==◌, Bool
 use Rattle.std.specs.List.{list_any}
 use Rattle.hv_wids.specs.declared.list.Exception.{Exception}
 use Rattle.hv_history.specs.State.{State, numbered, state_of}
-use Rattle.hv_book.specs.Past.{owners_in, forgotten_in}
+use Rattle.hv_earlier.specs.hv_meta.specs.hv_book.specs.Past.{owners_in, forgotten_in}
 use Rattle.hv_earlier.specs.Fates.{fate_of}
 use Rattle.hv_earlier.specs.declared.fates.Fate as earlier
 use Rattle.hv_earlier.specs.declared.fates.Fate.TheVariants as fate

@@ -16,7 +16,7 @@ use Rattle.hv_history.specs.Lasting.{IsFront, Later, TableLater, GoesOn}
 use Rattle.hv_history.specs.Legal.{CommitFits, AllFit, Fits}
 use Rattle.hv_history.specs.State.{State, numbered, changed, forgot, nothing_yet, state_of, meaning, written_by, written_to, commits, tables_behind, made_by, acted, after}
 use Rattle.hv_history.proofs.LastingLaws.{goes-on, goes-on-all}
-use Rattle.hv_book.specs.Past.{owners_in, forgotten_in}
+use Rattle.hv_earlier.specs.hv_meta.specs.hv_book.specs.Past.{owners_in, forgotten_in}
 use Rattle.hv_earlier.specs.Fates as earlier_fates
 use Rattle.hv_earlier.specs.declared.fates.Fate as earlier
 use Rattle.hv_earlier.specs.Lists as lists

@@ -11,7 +11,7 @@ use Rattle.hv_logic.specs.declared.catalog.TableInfo.{TableInfo}
 use Rattle.hv_logic.specs.declared.effect.Effect.{Effect}
 use Rattle.hv_logic.specs.declared.effect.Found.{Found}
 use Rattle.hv_logic.specs.declared.meaning.Meaning.{Meaning}
-use Rattle.hv_logic.specs.declared.meaning.Meaning.TheVariants.{Refused, Listing, Change, Make, Unmake, Plain, Twice, RowLimit, PartitionLimit}
+use Rattle.hv_logic.specs.declared.meaning.Meaning.TheVariants.{Refused, Listing, Change, Make, Unmake, Ask, Plain, Twice, RowLimit, PartitionLimit}
 use Rattle.hv_history.specs.declared.entry.Entry.{Entry}
 use Rattle.hv_history.specs.declared.entry.Entry.TheVariants as entry
 use Rattle.hv_history.specs.declared.state.Snapshot.{Snapshot}
@@ -150,6 +150,7 @@ one-write (Some (Listing names rows)) given = inl refl
 one-write (Some (Change info effect)) given = change-write info effect given (given_in info.table.0 given) refl
 one-write (Some (Make shape)) given = inl refl
 one-write (Some (Unmake table)) given = inl refl
+one-write (Some (Ask table region kind)) given = inl refl
 one-write (Some Plain) given = inl refl
 one-write (Some (Twice region row)) given = inl refl
 one-write (Some RowLimit) given = inl refl

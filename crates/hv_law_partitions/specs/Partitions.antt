@@ -9,7 +9,7 @@ use Rattle.hv_logic.specs.declared.effect.Found.{Found}
 use Rattle.hv_history.specs.declared.state.Table.{Table}
 use Rattle.hv_history.specs.declared.state.Written.{Written}
 use Rattle.hv_history.specs.State.{State, numbered}
-use Rattle.hv_book.specs.Past.{owners_in, forgotten_in}
+use Rattle.hv_earlier.specs.hv_meta.specs.hv_book.specs.Past.{owners_in, forgotten_in}
 use Rattle.hv_earlier.specs.Fates.{fate_of}
 use Rattle.hv_earlier.specs.declared.fates.Fate as earlier
 use Rattle.hv_earlier.specs.declared.fates.Fate.TheVariants as fate

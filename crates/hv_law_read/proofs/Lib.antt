@@ -3,3 +3,4 @@ pub mod ReaderLemmas
 pub mod TakenLemmas
 pub mod RowLemmas
 pub mod OwnLemmas
+pub mod WholeLemmas

@@ -40,8 +40,9 @@ use Rattle.hv_choosing.specs.Dirs.{name_of}
 use Rattle.hv_choosing.specs.Laws.{IsOwnDir, IsOwnFile}
 use Rattle.hv_choosing.specs.Listing.{AreListed}
 use Rattle.hv_choosing.specs.Taken.{delta_name, files_taken}
-use Rattle.hv_table_rows.specs.Reading.{Sheet, sheet_file, partition_in, IsSheet}
-use Rattle.hv_table_rows.proofs.Shown.{one-write}
+use Rattle.hv_law_whole.specs.hv_law_directories.specs.hv_table_rows.specs.Reading.{Sheet, sheet_file, partition_in, IsSheet}
+use Rattle.hv_law_whole.specs.hv_law_directories.specs.hv_table_rows.proofs.ReadContent.{wanted-all}
+use Rattle.hv_law_whole.specs.hv_law_directories.specs.hv_table_rows.proofs.Shown.{one-write}
 use Rattle.hv_law_visible.specs.Members.{IsIn}
 use Rattle.hv_law_visible.specs.History.{Write, has_write, by_deleter}
 use Rattle.hv_law_visible.specs.Visible.{base_chosen, writes_shown}
@@ -450,7 +451,8 @@ module _ (book : List Entry) (txn place : ℕ) (table : Table) (files : disk.Tre
           let here = in-filter (is_of partition) row v.inserts at_row (of-text partition partition refl) in
           let c = read-of (λ (x : Write Found). x.inserts) its_part.tree.deltas its_part.tree.inserts its-kept.stands.deltas row here in
           let r = from-flat (inserted_by last.info.shape partition) row (recs_in file_read false files (dir_of last.info partition (delta_name false c.0))) c.2 in
-          let found = rec-sheet last.info its_list partition files named last-listed file_read can-be-read kind sheets sheets-are each (delta_name kind c.0)
+          let found = rec-sheet last.info its_list partition files named last-listed (λ other. true) refl file_read can-be-read kind sheets
+          (sheets-are ∙ sym (wanted-all (files_taken kind its_list named))) each (delta_name kind c.0)
           (subst (λ b. IsChosenName last.info its_list partition files named last-listed b (delta_name b c.0)) (sym is) (inr (c.0, c.1, refl))) r.0
           (subst (λ b. IsIn r.0 (recs_in file_read b files (dir_of last.info partition (delta_name b c.0)))) (sym is) r.1) in
           record {
@@ -466,7 +468,8 @@ module _ (book : List Entry) (txn place : ℕ) (table : Table) (files : disk.Tre
           (in-map id_of row (rows_of partition v.deletes) (in-filter (is_of partition) row v.deletes at_row (of-text partition partition refl))) in
           let c = read-of by_deleter its_part.tree.delete_deltas its_part.tree.deletes its-kept.stands.delete_deltas (row.id, v.write) here in
           let r = from-flat deleted_by (row.id, v.write) (recs_in file_read true files (dir_of last.info partition (delta_name true c.0))) c.2 in
-          let found = rec-sheet last.info its_list partition files named last-listed file_read can-be-read kind sheets sheets-are each (delta_name kind c.0)
+          let found = rec-sheet last.info its_list partition files named last-listed (λ other. true) refl file_read can-be-read kind sheets
+          (sheets-are ∙ sym (wanted-all (files_taken kind its_list named))) each (delta_name kind c.0)
           (subst (λ b. IsChosenName last.info its_list partition files named last-listed b (delta_name b c.0)) (sym is) (inr (c.0, c.1, refl))) r.0
           (subst (λ b. IsIn r.0 (recs_in file_read b files (dir_of last.info partition (delta_name b c.0)))) (sym is) r.1) in
           record {

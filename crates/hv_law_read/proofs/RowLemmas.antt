@@ -7,16 +7,19 @@ use Rattle.std.specs.List.{flat_map, AllByRecursion}
 use Rattle.std.specs.List.Sorted.{IsStrictlySortedBy}
 use Rattle.std.proofs.lemmas.Bool.{and_parts}
 use Rattle.std.proofs.lemmas.List.{take-append-drop}
+use Rattle.std.proofs.lemmas.List.Kept.{IsStrictlySortedBy-filter}
 use Rattle.hv_base.specs.Sorting.{sorted_by}
 use Rattle.hv_shelf.specs.Disk as disk
 use Rattle.hv_logic.specs.declared.catalog.Shape.{Shape}
 use Rattle.hv_logic.specs.declared.catalog.TableInfo.{TableInfo}
 use Rattle.hv_logic.specs.declared.effect.Found.{Found}
 use Rattle.hv_logic.specs.Rows.{found_cmp}
+use Rattle.hv_route.specs.Partitions.{partition_values}
 use Rattle.hv_route.specs.Standing.{insert_record, stands_in}
 use Rattle.hv_rowfile.specs.declared.record.Rec.{Rec}
 use Rattle.hv_wids.specs.WriteIds.{WriteIds}
 use Rattle.hv_dirs.specs.Choice.{sight_of, Delta, Own, Wide}
+use Rattle.hv_history.specs.hv_meaning.specs.Needs.{rows_wanted}
 use Rattle.hv_history.specs.declared.entry.Entry.{Entry}
 use Rattle.hv_history.specs.declared.state.Table.{Table}
 use Rattle.hv_history.specs.declared.state.Written.{Written}
@@ -34,14 +37,15 @@ use Rattle.hv_choosing.specs.declared.dir.Dir.{Dir}
 use Rattle.hv_choosing.specs.declared.dir.Dir.TheVariants as listed_dir
 use Rattle.hv_choosing.specs.declared.listing.DirFile.{DirFile}
 use Rattle.hv_choosing.specs.Dirs.{name_of, span_of}
+use Rattle.hv_choosing.specs.Listing.{AreListed}
 use Rattle.hv_choosing.specs.Taken.{files_taken}
-use Rattle.hv_table_rows.specs.Amiss.{IsWithin}
-use Rattle.hv_table_rows.specs.Reading.{AreOnce, AreRows, IsSpoiled}
-use Rattle.hv_table_rows.proofs.Members.{same-rising, one-of-rising, contained}
-use Rattle.hv_table_rows.proofs.Shown.{IsOf, own-records}
+use Rattle.hv_law_whole.specs.hv_law_directories.specs.hv_table_rows.specs.Amiss.{IsWithin}
+use Rattle.hv_law_whole.specs.hv_law_directories.specs.hv_table_rows.specs.Reading.{HoldsAt, sheet_file, partition_in, found_with, founds_in, at_of, is_gone, AreOnce, AreRows, IsSpoiled}
+use Rattle.hv_law_whole.specs.hv_law_directories.specs.hv_table_rows.proofs.Members.{same-rising, one-of-rising, contained}
+use Rattle.hv_law_whole.specs.hv_law_directories.specs.hv_table_rows.proofs.Shown.{IsOf, own-records}
 use Rattle.hv_law_visible.specs.Members.{IsIn}
 use Rattle.hv_law_visible.specs.Visible.{visible_rows, by_id}
-use Rattle.hv_law_visible.proofs.MemberLemmas.{from-flat, in-filter, from-filter, from-map}
+use Rattle.hv_law_visible.proofs.MemberLemmas.{from-flat, in-map, in-filter, from-filter, from-map}
 use Rattle.hv_law_visible.proofs.SortingLemmas.{from-sorted, all-from}
 use Rattle.hv_law_visible.proofs.TakenLemmas.{all-in}
 use Rattle.hv_law_whole.specs.hv_law_directories.specs.hv_law_partitions.specs.Partitions.{id_of, is_of, rows_of}
@@ -51,7 +55,7 @@ use Rattle.hv_law_whole.specs.hv_law_directories.specs.hv_law_partitions.proofs.
 use Rattle.hv_law_whole.specs.hv_law_directories.specs.Reading.{file_read}
 use Rattle.hv_law_whole.specs.hv_law_directories.specs.Directories.{directories_in}
 use Rattle.hv_law_whole.specs.hv_law_directories.proofs.ReadingLemmas.{can-be-read}
-use Rattle.hv_law_whole.specs.hv_law_directories.proofs.VisibleLemmas.{rows-visible}
+use Rattle.hv_law_whole.specs.hv_law_directories.proofs.VisibleLemmas.{found-from, rows-visible}
 use Rattle.hv_law_whole.specs.hv_law_made.specs.Made.{has_written, rec_cmp, delta_recs, is_up_to, rows_up_to, base_recs, name_recs, has_deletes, has_rows, if_bare, bare_file, some_or, name_file}
 use Rattle.hv_law_whole.specs.hv_law_made.specs.Standing.{is_live_table, is_live_at}
 use Rattle.hv_law_whole.specs.hv_law_made.proofs.BookLemmas.{books-are-sound}
@@ -201,7 +205,7 @@ module _ (book : List Entry) (txn place : ℕ) (table : Table) (files : disk.Tre
 
   -- ---- rows
 
-  module _ (rows : List Found) (are : AreRows table.info list files rows) where
+  module _ (wants : List ℕ → Bool) (rows : List Found) (are : AreRows wants table.info list files rows) where
     abbrev IsShown : TableInfo → ℕ → List ℕ → Found → Type 0
     IsShown info p partition found =
         IsIn found (visible_rows id_of (sight_of (lists.list_at book p info.table.0)) (directories_in file_read info partition files are.named))
@@ -222,18 +226,31 @@ module _ (book : List Entry) (txn place : ℕ) (table : Table) (files : disk.Tre
     content-is : content before number ≡ content_of table.writes
     content-is = ap content_in at.stood
 
-    shows : (partition : List ℕ) → AreOnce (by_id id_of) (visible_rows id_of (sight_of list) (directories_in file_read table.info partition files are.named)) (rows_of partition rows)
-    shows partition = rows-visible file_read table.info list partition files rows can-be-read are
+    shows : (partition : List ℕ) → wants partition ≡ true
+        → AreOnce (by_id id_of) (visible_rows id_of (sight_of list) (directories_in file_read table.info partition files are.named)) (rows_of partition rows)
+    shows partition wanted = rows-visible file_read wants table.info list partition files rows can-be-read are wanted
+
+    -- a row that is read is of a partition that is wanted, since its file is
+    row-wanted : (found : Found) → IsIn found rows → wants found.partition ≡ true
+    row-wanted found among =
+        let inserts = are.inserts in
+        let left = from-filter (λ (row : Found). not (is_gone are.gone (at_of row))) found are.inserted (are.rows_are.among found among) in
+        let at = from-flat (founds_in list table.info.shape) found inserts.sheets (subst (IsIn found) inserts.items_are left.0) in
+        let part = partition_in at.0 in
+        let file = from-filter (λ (one : DirFile). wants one.place.partition) at.0.file (files_taken false list are.named)
+        (subst (IsIn at.0.file) inserts.files_are (in-map sheet_file at.0 inserts.sheets at.1)) in
+        let of = from-flat (found_with list part (partition_values table.info.shape.parts part)) found at.0.recs at.2 in
+        ap wants (found-from list table.info.shape part found of.0 of.2).here ∙ file.1
 
     rows-in : (found : Found) → IsIn found rows → IsIn found (content_of table.writes)
     rows-in found among =
         let here = in-filter (is_of found.partition) found rows among (of-text found.partition found.partition refl) in
-        subst (IsIn found) content-is ((sees found.partition found).0 ((shows found.partition).among found here)).0
+        subst (IsIn found) content-is ((sees found.partition found).0 ((shows found.partition (row-wanted found among)).among found here)).0
 
-    in-rows : (found : Found) → IsIn found (content_of table.writes) → IsIn found rows
-    in-rows found stood =
+    in-rows : (found : Found) → IsIn found (content_of table.writes) → wants found.partition ≡ true → IsIn found rows
+    in-rows found stood wanted =
         let shown = (sees found.partition found).1 (subst (IsIn found) (sym content-is) stood, refl) in
-        let other = (shows found.partition).every found shown in
+        let other = (shows found.partition wanted).every found shown in
         let kept_one = from-filter (is_of found.partition) other.0 rows other.1 in
         let part_is : other.0.partition ≡ found.partition = text-of other.0.partition found.partition kept_one.1 in
         let one : found ≡ other.0 =
@@ -241,32 +258,44 @@ module _ (book : List Entry) (txn place : ℕ) (table : Table) (files : disk.Tre
         (ap is_eq (by-id found other.0 (sym part_is)) ∙ other.2) in
         subst (λ (x : Found). IsIn x rows) (sym one) kept_one.0
 
-    pub all-stood : rows ≡ content_of table.writes
-    all-stood = same-rising found_cmp found-total rows (content_of table.writes) are.rows_are.up content-up rows-in in-rows
+    abbrev is_wanted : Found → Bool
+    is_wanted found = wants found.partition
+
+    pub all-stood : rows ≡ rows_wanted wants (content_of table.writes)
+    all-stood =
+        same-rising found_cmp found-total rows (rows_wanted wants (content_of table.writes)) are.rows_are.up
+        (IsStrictlySortedBy-filter found_cmp is_wanted (content_of table.writes) content-up)
+        (λ found among. in-filter is_wanted found (content_of table.writes) (rows-in found among) (row-wanted found among))
+        (λ found stood. let at = from-filter is_wanted found (content_of table.writes) stood in in-rows found at.0 at.1)
 
   -- ---- files
 
-  pub never-spoiled : IsSpoiled table.info list files → ⊥
-  never-spoiled spoiled =
-      let its = later book txn place table files at in
+  -- each one that is taken stands, with records of its write ids
+  pub stands-with : (kind : Bool) (named : List DirFile) → AreListed (disk.places_of table.info.table files) named → (file : DirFile) → IsIn file (files_taken kind list named)
+      → (recs : List Rec) × HoldsAt files file.place kind (span_of file.dir) recs
+  stands-with kind named are_listed file taken =
+      let its = (later book txn place table files at).0 in
       let by = read-by book txn place table files at in
-      let kind = spoiled.deletes in
-      let named = spoiled.named in
-      let listed = listed-now book txn place table files at spoiled.named spoiled.listed in
-      let file : DirFile = spoiled.lacks.one in
-      let taken = contained (files_taken kind list named) file spoiled.lacks.among in
+      let listed = listed-now book txn place table files at named are_listed in
       let taken_now = subst (λ (l : WriteIds). IsIn file (files_taken kind l named)) (list-now book txn place table files at) taken in
-      let needed = taken-is-needed book txn place table files kind named file at spoiled.listed taken in
-      let here = at-here book its.0 files txn by named listed kind file taken_now in
+      let needed = taken-is-needed book txn place table files kind named file at are_listed taken in
+      let here = at-here book its files txn by named listed kind file taken_now in
       let live : is_live_at (state_of book) file.place ≡ true = ap is_live_table here ∙ by.live in
       let stands = needed-stands (state_of book) files txn at.transaction file.place kind needed.recs (books-are-sound profile book at.fit) at.stands
       at.here at.unended live needed.needed in
-      let within = file-within its.0.info.shape its.0.writes readable file.place.partition file.place.bucket file.dir (kind, needed.recs)
-      (file-of book its.0 files txn by named listed kind file taken_now needed.recs needed.needed.made) in
-      spoiled.lacks.lacks needed.recs (record { file = stands.encodes.file; own = within; bytes = stands.is ∙ ap Some stands.encodes.bytes_are })
+      let within = file-within its.info.shape its.writes readable file.place.partition file.place.bucket file.dir (kind, needed.recs)
+      (file-of book its files txn by named listed kind file taken_now needed.recs needed.needed.made) in
+      (needed.recs, record { file = stands.encodes.file; own = within; bytes = stands.is ∙ ap Some stands.encodes.bytes_are })
+
+  pub never-spoiled : IsSpoiled table.info list files → ⊥
+  never-spoiled spoiled =
+      let kind = spoiled.deletes in
+      let taken = contained (files_taken kind list spoiled.named) spoiled.lacks.one spoiled.lacks.among in
+      let holds = stands-with kind spoiled.named spoiled.listed spoiled.lacks.one taken in
+      spoiled.lacks.lacks holds.0 holds.1
 
 pub rows-stood : RowsStood
-rows-stood book txn place table files rows at are = all-stood book txn place table files at rows are
+rows-stood book txn place table files wants rows at are = all-stood book txn place table files at wants rows are
 
 pub none-was-spoiled : NoneWasSpoiled
 none-was-spoiled book txn place table files at spoiled = never-spoiled book txn place table files at spoiled

@@ -44,7 +44,7 @@ use Rattle.hv_choosing.specs.Listing.{IsNamed, AreListed}
 use Rattle.hv_choosing.specs.Taken.{chosen_texts, files_taken}
 use Rattle.hv_choosing.proofs.Listed.{listed-named, listed-place}
 use Rattle.hv_choosing.proofs.Searching.{same-text}
-use Rattle.hv_table_rows.proofs.TakenFiles.{there-place}
+use Rattle.hv_law_whole.specs.hv_law_directories.specs.hv_table_rows.proofs.TakenFiles.{there-place}
 use Rattle.hv_law_visible.specs.Members.{IsIn}
 use Rattle.hv_law_visible.specs.History.{mark_of}
 use Rattle.hv_law_visible.specs.Visible.{Tree, base_chosen}

@@ -6,6 +6,7 @@ use Rattle.hv_shelf.specs.Disk.{Tree, places_of}
 use Rattle.hv_logic.specs.declared.effect.Found.{Found}
 use Rattle.hv_rowfile.specs.declared.record.Rec.{Rec}
 use Rattle.hv_dirs.specs.Names.{write_end}
+use Rattle.hv_history.specs.hv_meaning.specs.Needs.{rows_wanted}
 use Rattle.hv_history.specs.declared.entry.Entry.{Entry}
 use Rattle.hv_history.specs.declared.state.Snapshot.{Snapshot}
 use Rattle.hv_history.specs.declared.state.Table.{Table}
@@ -18,7 +19,7 @@ use Rattle.hv_stands.specs.Statements.{AllFitting}
 use Rattle.hv_choosing.specs.declared.listing.DirFile.{DirFile}
 use Rattle.hv_choosing.specs.Listing.{AreListed}
 use Rattle.hv_choosing.specs.Taken.{files_taken}
-use Rattle.hv_table_rows.specs.Reading.{AreRows, IsSpoiled}
+use Rattle.hv_law_whole.specs.hv_law_directories.specs.hv_table_rows.specs.Reading.{AreRows, IsSpoiled}
 use Rattle.hv_law_visible.specs.Members.{IsIn}
 use Rattle.hv_law_whole.specs.hv_law_made.specs.Standing.{Standing}
 use Rattle.hv_law_read.specs.Needs.{IsNeededBy}
@@ -49,11 +50,12 @@ TakenIsNeeded =
     → ReadsAt book txn place table files → AreListed (places_of table.info.table files) named
     → IsIn file (files_taken kind (list_at book place table.info.table.0) named) → IsTakenFor book txn kind file
 
--- What it reads is what stood in the table.
+-- What it reads of the partitions that are wanted is what stood in them.
 abbrev pub RowsStood : Type 0
 RowsStood =
-    (book : List Entry) (txn place : ℕ) (table : Table) (files : Tree) (rows : List Found) → ReadsAt book txn place table files
-    → AreRows table.info (list_at book place table.info.table.0) files rows → rows ≡ content_of table.writes
+    (book : List Entry) (txn place : ℕ) (table : Table) (files : Tree) (wants : List ℕ → Bool) (rows : List Found)
+    → ReadsAt book txn place table files → AreRows wants table.info (list_at book place table.info.table.0) files rows
+    → rows ≡ rows_wanted wants (content_of table.writes)
 
 -- And no file of it is amiss.
 abbrev pub NoneWasSpoiled : Type 0

@@ -19,9 +19,9 @@ use Rattle.hv_stands.proofs.Behind.{one-behind, opened-there, numbered-behind}
 use Rattle.hv_law_next.specs.Carrying.{IsRunningStore}
 use Rattle.hv_law_next.proofs.Going.{runs-on}
 use Rattle.hv_program.specs.Change.{from_to}
-use Rattle.hv_program.specs.hv_session.specs.hv_steps.specs.Ending.{IsAskBy, AddsNoneOrId}
-use Rattle.hv_program.specs.hv_session.specs.hv_steps.proofs.Books.{all-append}
-use Rattle.hv_program.specs.hv_session.specs.Taking.{HoldsAt}
+use Rattle.hv_session.specs.hv_beginning.specs.hv_steps.specs.Ending.{IsAskBy, AddsNoneOrOne}
+use Rattle.hv_session.specs.hv_beginning.specs.hv_steps.proofs.Books.{all-append}
+use Rattle.hv_session.specs.Taking.{HoldsAt}
 use Rattle.hv_program.specs.Doing.{Waiting, Standing, waiting_in, without, is_session, asking_of, RepliesAtOnce, ReleasesOne, IsDone, AreDone}
 
 -- ---- those that wait
@@ -86,9 +86,10 @@ held-of (Some stage.Commit) txn added h =
       all-append (IsOf txn) h.0 h.1 (all-mapped (IsAskBy txn) (IsOf txn) (λ event ask. subst (IsOf txn) (sym ask.event_is) refl) h.0 h.2) (id-of h.1 h.3),
     )
   where
-    id-of : (ids : List Entry) → AddsNoneOrId txn ids → AreOf txn ids
+    id-of : (ids : List Entry) → AddsNoneOrOne txn ids → AreOf txn ids
     id-of ids (inl none) = subst (AreOf txn) (sym none) tt
-    id-of ids (inr id) = subst (AreOf txn) (sym id.2) (refl, tt)
+    id-of ids (inr (inl id)) = subst (AreOf txn) (sym id.2) (refl, tt)
+    id-of ids (inr (inr job)) = subst (AreOf txn) (sym job.4) (refl, tt)
 held-of (Some stage.Taken) txn added h = absurd h
 held-of (Some stage.Replied) txn added h = absurd h
 

@@ -7,6 +7,7 @@ use Rattle.std.proofs.lemmas.List.Sums.{fold-append}
 use Rattle.hv_base.specs.declared.gate.Stage.{Stage}
 use Rattle.hv_base.specs.declared.gate.Stage.TheVariants as stage
 use Rattle.hv_base.specs.declared.ids.TxnId.{TxnId}
+use Rattle.hv_base.specs.declared.ids.JobId.{JobId}
 use Rattle.hv_base.specs.declared.ids.TableId.{TableId}
 use Rattle.hv_base.specs.declared.ids.WriteId.{WriteId}
 use Rattle.hv_ast.specs.declared.statement.Stmt.{Stmt}
@@ -18,6 +19,7 @@ use Rattle.hv_history.specs.declared.entry.Entry.{Entry}
 use Rattle.hv_history.specs.declared.entry.Entry.TheVariants as entry
 use Rattle.hv_history.specs.declared.entry.Cause.{Cause}
 use Rattle.hv_history.specs.declared.entry.Cause.TheVariants as cause
+use Rattle.hv_history.specs.declared.entry.JobKind.{JobKind}
 use Rattle.hv_history.specs.declared.state.Ending.{Ending}
 use Rattle.hv_history.specs.declared.state.Snapshot.{Snapshot}
 use Rattle.hv_history.specs.declared.state.Transaction.{Transaction}
@@ -34,8 +36,9 @@ use Rattle.hv_law_next.specs.Carrying.{started_of, AreBefore, IsAtHold, HasAsked
 use Rattle.hv_law_next.proofs.Holding.{stays-at-hold}
 use Rattle.hv_law_next.proofs.Going.{all-before, ended-due, legal-parts, carries-on-by}
 use Rattle.hv_program.specs.Change.{from_to}
-use Rattle.hv_program.specs.hv_session.specs.hv_steps.specs.Ending.{EndsUncommitted, IsAskBy, AddsNoneOrId, AddsAbort}
-use Rattle.hv_program.specs.hv_session.specs.Taking.{EndsEarly, EndsBefore, HoldsAt}
+use Rattle.hv_session.specs.hv_beginning.specs.hv_steps.specs.Ending.{EndsUncommitted, IsAskBy, AddsNoneOrOne, AddsAbort, job_asked}
+use Rattle.hv_session.specs.Taking.{EndsEarly, EndsBefore, HoldsAt}
+use Rattle.hv_session.proofs.JobsAsked.{job-apart}
 use Rattle.hv_program.specs.Doing.{Waiting, Standing, without, WentOn, RepliesAtOnce, Replies, IsPutOff, GoesOnHeld}
 use Rattle.hv_law_serial.specs.Serial.{tree_runs, text_runs, is_open_one, waits_if, stood, if_room, if_runs, taken_up, released}
 use Rattle.hv_law_serial.specs.History.{AddsSteadily, memory_line}
@@ -126,9 +129,10 @@ module _ (txn : ℕ) (book : List Entry) (fresh : started_of (numbered (state_of
         (subst (λ b. AreBefore (Some stage.Commit) txn b more) (sym (append_assoc at (event ∷ []) asks)) rest),
   )
 
-  id-before : (at more : List Entry) → AddsNoneOrId txn more → AreBefore (Some stage.Commit) txn at more
+  id-before : (at more : List Entry) → AddsNoneOrOne txn more → AreBefore (Some stage.Commit) txn at more
   id-before at more (inl none) = subst (AreBefore (Some stage.Commit) txn at) (sym none) tt
-  id-before at more (inr id) = subst (AreBefore (Some stage.Commit) txn at) (sym id.2) (or-true (not (there at)), tt)
+  id-before at more (inr (inl id)) = subst (AreBefore (Some stage.Commit) txn at) (sym id.2) (or-true (not (there at)), tt)
+  id-before at more (inr (inr job)) = subst (AreBefore (Some stage.Commit) txn at) (sym job.4) (or-true (not (there at)), tt)
 
   cut-before : (at more : List Entry) → AddsAbort txn more → AreBefore (Some stage.Commit) txn at more
   cut-before at more cut = subst (AreBefore (Some stage.Commit) txn at) (sym cut.4) (by cut.0 cut.2)
@@ -136,13 +140,17 @@ module _ (txn : ℕ) (book : List Entry) (fresh : started_of (numbered (state_of
       end : Entry
       end = entry.Abort (record { 0 = txn }) cut.1
 
-      by : (ids : List Entry) → AddsNoneOrId txn ids → AreBefore (Some stage.Commit) txn at (ids ++ end ∷ [])
+      by : (ids : List Entry) → AddsNoneOrOne txn ids → AreBefore (Some stage.Commit) txn at (ids ++ end ∷ [])
       by ids (inl none) =
           subst (λ (xs : List Entry). AreBefore (Some stage.Commit) txn at (xs ++ end ∷ [])) (sym none) (uncommitted-before (record { 0 = txn }) cut.1 (there at) cut.3, tt)
-      by ids (inr id) =
+      by ids (inr (inl id)) =
           let given : Entry = entry.Given (record { 0 = txn }) id.0 id.1 in
           subst (λ (xs : List Entry). AreBefore (Some stage.Commit) txn at (xs ++ end ∷ [])) (sym id.2)
           (or-true (not (there at)), (uncommitted-before (record { 0 = txn }) cut.1 (there (at ++ given ∷ [])) cut.3, tt))
+      by ids (inr (inr job)) =
+          let asked : Entry = job_asked txn job.0 job.1 job.2 job.3 in
+          subst (λ (xs : List Entry). AreBefore (Some stage.Commit) txn at (xs ++ end ∷ [])) (sym job.4)
+          (or-true (not (there at)), (uncommitted-before (record { 0 = txn }) cut.1 (there (at ++ asked ∷ [])) cut.3, tt))
 
   pub ends-before : (hold : Option Stage) (added : List Entry) → EndsBefore hold txn added → AreSteady added → AreBefore hold txn book added
   ends-before None added ends steady = all-before txn book added
@@ -193,9 +201,22 @@ gives-open book txn table write is = record {
   started = is.started;
 }
 
-id-open : (book : List Entry) (txn : ℕ) (more : List Entry) → AddsNoneOrId txn more → IsOpenIn book txn → IsOpenIn (book ++ more) txn
+job-open : (book : List Entry) (txn : ℕ) (job : JobId) (table : TableId) (partition : List ℕ) (kind : JobKind) → IsOpenIn book txn
+    → IsOpenIn (book ++ job_asked txn job table partition kind ∷ []) txn
+job-open book txn job table partition kind is =
+    let event : Entry = job_asked txn job table partition kind in
+    record {
+      t = is.t;
+      at = ap (λ s. numbered s.transactions txn) (fold-append after nothing_yet book (event ∷ []))
+          ∙ others-leave (event ∷ []) (state_of book) txn is.t (job-apart txn txn job table partition kind, tt) is.at;
+      unended = is.unended;
+      started = is.started;
+    }
+
+id-open : (book : List Entry) (txn : ℕ) (more : List Entry) → AddsNoneOrOne txn more → IsOpenIn book txn → IsOpenIn (book ++ more) txn
 id-open book txn more (inl none) is = subst (λ xs. IsOpenIn (book ++ xs) txn) (sym none) (subst (λ xs. IsOpenIn xs txn) (sym (append-nil book)) is)
-id-open book txn more (inr id) is = subst (λ xs. IsOpenIn (book ++ xs) txn) (sym id.2) (gives-open book txn id.0 id.1 is)
+id-open book txn more (inr (inl id)) is = subst (λ xs. IsOpenIn (book ++ xs) txn) (sym id.2) (gives-open book txn id.0 id.1 is)
+id-open book txn more (inr (inr job)) is = subst (λ xs. IsOpenIn (book ++ xs) txn) (sym job.4) (job-open book txn job.0 job.1 job.2 job.3 is)
 
 -- what it asks for is about others
 asks-others : (txn : ℕ) (asks : List Entry) → AllByRecursion (IsAskBy txn) asks → AreNotOf txn asks

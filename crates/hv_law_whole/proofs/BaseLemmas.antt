@@ -15,8 +15,8 @@ use Rattle.hv_rowfile.specs.declared.record.Rec.{Rec}
 use Rattle.hv_history.specs.declared.state.Table.{Table}
 use Rattle.hv_history.specs.declared.state.Written.{Written}
 use Rattle.hv_history.specs.State.{is_deleted, content_of}
-use Rattle.hv_stands.proofs.Numbers.{either}
-use Rattle.hv_table_rows.proofs.Names.{same-text, text-same}
+use Rattle.hv_law_directories.specs.hv_stands.proofs.Numbers.{either}
+use Rattle.hv_law_directories.specs.hv_table_rows.proofs.Names.{same-text, text-same}
 use Rattle.hv_law_made.specs.Made.{is_up_to, rows_up_to, base_recs, in_partition, has_rows, if_bare, some_or, name_file}
 use Rattle.hv_law_visible.specs.Members.{IsIn}
 use Rattle.hv_law_visible.specs.History as visible

@@ -20,8 +20,8 @@ use Rattle.hv_history.specs.declared.state.Written.{Written}
 use Rattle.hv_history.specs.State.{State, Job, numbered, state_of}
 use Rattle.hv_history.specs.Legal.{profile, touch_cmp, Rise}
 use Rattle.hv_history.specs.Jobs.{Events, inserts, deletes, is_between, is_job_of, jobs_in, is_touch_of, events_of, events_if, events_by, events_at, events_from, ids_of, events_in}
-use Rattle.hv_stands.proofs.FileRecords.{tied}
-use Rattle.hv_stands.specs.Sound.{IsSound}
+use Rattle.hv_law_directories.specs.hv_stands.proofs.FileRecords.{tied}
+use Rattle.hv_law_directories.specs.hv_stands.specs.Sound.{IsSound}
 use Rattle.hv_jobs.specs.Covers.{names_by, job_names, covers}
 use Rattle.hv_jobs.specs.Covered.{own, wide, base, changes, has_within, covered_if, own_covered, published_covered, made_covered, covered_names}
 use Rattle.hv_law_jobs.specs.Sound.{HasSoundRange, IsSoundJob}

@@ -32,12 +32,12 @@ use Rattle.hv_history.specs.State.{State, Job, state_of, nothing_yet}
 use Rattle.hv_history.specs.Legal.{profile, AllTruthful}
 use Rattle.hv_history.specs.Jobs.{is_job_of, is_live_one, pieces_for, events_in}
 use Rattle.hv_history.specs.JobsFit.{PublishedFits}
-use Rattle.hv_stands.specs.Files.{records_of}
-use Rattle.hv_stands.specs.Sound as stands
-use Rattle.hv_stands.specs.Sound.{IsRoutedWrite, HasSoundWrites}
-use Rattle.hv_stands.proofs.FileRecords.{by-id}
-use Rattle.hv_stands.proofs.Ordered.{rises-kept}
-use Rattle.hv_stands.proofs.Soundness.{all-mapped, all-numbered}
+use Rattle.hv_law_directories.specs.hv_stands.specs.Files.{records_of}
+use Rattle.hv_law_directories.specs.hv_stands.specs.Sound as stands
+use Rattle.hv_law_directories.specs.hv_stands.specs.Sound.{IsRoutedWrite, HasSoundWrites}
+use Rattle.hv_law_directories.specs.hv_stands.proofs.FileRecords.{by-id}
+use Rattle.hv_law_directories.specs.hv_stands.proofs.Ordered.{rises-kept}
+use Rattle.hv_law_directories.specs.hv_stands.proofs.Soundness.{all-mapped, all-numbered}
 use Rattle.hv_law_jobs.specs.Sound.{IsAboveBase}
 use Rattle.hv_law_jobs.proofs.CountLemmas.{marked-most}
 use Rattle.hv_law_jobs.proofs.OrderLemmas.{job-of-is, job-of-from}

@@ -26,11 +26,11 @@ use Rattle.hv_book.specs.Past.{owners_in, forgotten_in}
 use Rattle.hv_earlier.specs.Fates as earlier_fates
 use Rattle.hv_earlier.specs.declared.fates.Fate as earlier
 use Rattle.hv_earlier.specs.Lists as lists
-use Rattle.hv_stands.specs.Files.{AreEncoded, IsEncoded, IsSaid}
-use Rattle.hv_stands.specs.Sound.{IsRoutedWrite, HasSoundWrites, IsSound}
-use Rattle.hv_stands.proofs.Numbers.{same_one, found, numbered-map}
-use Rattle.hv_stands.proofs.Soundness.{all-numbered}
-use Rattle.hv_stands.proofs.Behind.{entries-are}
+use Rattle.hv_law_directories.specs.hv_stands.specs.Files.{AreEncoded, IsEncoded, IsSaid}
+use Rattle.hv_law_directories.specs.hv_stands.specs.Sound.{IsRoutedWrite, HasSoundWrites, IsSound}
+use Rattle.hv_law_directories.specs.hv_stands.proofs.Numbers.{same_one, found, numbered-map}
+use Rattle.hv_law_directories.specs.hv_stands.proofs.Soundness.{all-numbered}
+use Rattle.hv_law_directories.specs.hv_stands.proofs.Behind.{entries-are}
 use Rattle.hv_law_jobs.specs.Sound.{IsSoundRange, HasSoundRange, IsSoundJob, IsBelowMark, AreSoundJobs}
 use Rattle.hv_law_jobs.specs.Lasting.{JobLater}
 use Rattle.hv_law_jobs.proofs.LastLemmas.{jobs-last}

@@ -26,10 +26,10 @@ use Rattle.hv_book.specs.Past.{owners_in, forgotten_in}
 use Rattle.hv_earlier.specs.Fates as earlier_fates
 use Rattle.hv_earlier.specs.declared.fates.Fate as earlier
 use Rattle.hv_earlier.specs.declared.fates.Fate.TheVariants as fate
-use Rattle.hv_stands.specs.Files.{records_of, ending_of}
-use Rattle.hv_stands.specs.Files as stands
-use Rattle.hv_stands.specs.Sound.{IsDone, IsOfCommitted}
-use Rattle.hv_stands.proofs.Numbers.{one_value, same_one, numbered-map, either}
+use Rattle.hv_law_directories.specs.hv_stands.specs.Files.{records_of, ending_of}
+use Rattle.hv_law_directories.specs.hv_stands.specs.Files as stands
+use Rattle.hv_law_directories.specs.hv_stands.specs.Sound.{IsDone, IsOfCommitted}
+use Rattle.hv_law_directories.specs.hv_stands.proofs.Numbers.{one_value, same_one, numbered-map, either}
 use Rattle.hv_history.specs.Jobs.{is_job_of, jobs_of}
 use Rattle.hv_jobs.specs.Covers.{is_freed}
 use Rattle.hv_law_made.specs.Made.{has_written, rec_cmp, delta_recs, base_recs, some_or, name_file, names_in, is_made, made_recs, is_spare}

@@ -20,8 +20,8 @@ use Rattle.hv_history.specs.declared.state.Written.{Written}
 use Rattle.hv_history.specs.State.{State, Job, numbered, given_in, written_by, state_of}
 use Rattle.hv_history.specs.Legal.{profile}
 use Rattle.hv_history.specs.Jobs.{Events, inserts, deletes, is_between, jobs_in, is_touch_of, events_of, events_if, events_by, events_at, events_from, ids_of, events_in}
-use Rattle.hv_stands.specs.Sound.{given_of, owners_of, given_among, owner_among, IsSound}
-use Rattle.hv_stands.proofs.Numbers.{one_value, same_one, numbered-map}
+use Rattle.hv_law_directories.specs.hv_stands.specs.Sound.{given_of, owners_of, given_among, owner_among, IsSound}
+use Rattle.hv_law_directories.specs.hv_stands.proofs.Numbers.{one_value, same_one, numbered-map}
 use Rattle.hv_jobs.specs.Covers.{range_names, names_by, job_names, covers}
 use Rattle.hv_jobs.specs.Covered.{own, wide, base, changes, has_within, covered_if, own_covered, published_covered, made_covered, covered_names}
 use Rattle.hv_law_made.specs.Made.{has_written, in_partition, has_events, is_made, write_names, names_in, made_names}

@@ -27,12 +27,12 @@ use Rattle.hv_history.specs.State.{State, numbered, changed, content_of, is_dele
 use Rattle.hv_history.specs.Legal.{profile, CommitFits, Rise, TouchesAreMeant, CommitIsTrue, IsTruthful, AllTruthful, commits_against, place_of_snapshot, touch_conflicts, touches_conflict, Fits, AllFit}
 use Rattle.hv_history.proofs.LastingLaws.{goes-on}
 use Rattle.hv_route.specs.Touching.{touches_of}
-use Rattle.hv_stands.specs.Sound.{info_in, IsSingle, IsSound}
-use Rattle.hv_stands.proofs.FileRecords.{tied}
-use Rattle.hv_stands.proofs.Numbers.{one_value, same_one, found, numbered-or-last}
-use Rattle.hv_stands.proofs.Soundness.{all-more, all-numbered}
-use Rattle.hv_stands.proofs.StandingRows.{found-total}
-use Rattle.hv_stands.proofs.Keeping.{still-open, open-here, nothing-sound, sound-after}
+use Rattle.hv_law_directories.specs.hv_stands.specs.Sound.{info_in, IsSingle, IsSound}
+use Rattle.hv_law_directories.specs.hv_stands.proofs.FileRecords.{tied}
+use Rattle.hv_law_directories.specs.hv_stands.proofs.Numbers.{one_value, same_one, found, numbered-or-last}
+use Rattle.hv_law_directories.specs.hv_stands.proofs.Soundness.{all-more, all-numbered}
+use Rattle.hv_law_directories.specs.hv_stands.proofs.StandingRows.{found-total}
+use Rattle.hv_law_directories.specs.hv_stands.proofs.Keeping.{still-open, open-here, nothing-sound, sound-after}
 use Rattle.hv_law_jobs.proofs.GrowLemmas.{ended-same}
 use Rattle.hv_law_made.proofs.NamedLemmas.{text-same}
 use Rattle.hv_law_made.proofs.StepLemmas.{numbered-in}

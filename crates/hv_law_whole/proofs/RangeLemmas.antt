@@ -17,8 +17,8 @@ use Rattle.hv_history.specs.State.{State, Job, numbered, state_of, content_of}
 use Rattle.hv_history.specs.Legal.{profile}
 use Rattle.hv_history.specs.Jobs.{greatest, is_job_of, is_touch_of, events_if, events_by, events_at, events_from, ids_of, events_in, write_of, mark_by, pieces_for}
 use Rattle.hv_history.specs.Jobs as jobs
-use Rattle.hv_stands.specs.Sound.{given_of, owners_of, given_among, owner_among, IsSound}
-use Rattle.hv_stands.proofs.Numbers.{numbered-map}
+use Rattle.hv_law_directories.specs.hv_stands.specs.Sound.{given_of, owners_of, given_among, owner_among, IsSound}
+use Rattle.hv_law_directories.specs.hv_stands.proofs.Numbers.{numbered-map}
 use Rattle.hv_law_jobs.specs.Sound.{is_of_write}
 use Rattle.hv_law_jobs.proofs.CountLemmas.{marked-most, there-most}
 use Rattle.hv_law_jobs.proofs.OrderLemmas.{job-of-is}

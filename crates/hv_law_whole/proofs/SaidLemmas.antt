@@ -16,7 +16,7 @@ use Rattle.hv_logic.specs.declared.catalog.TableInfo.{TableInfo}
 use Rattle.hv_logic.specs.declared.effect.Effect.{Effect}
 use Rattle.hv_logic.specs.declared.effect.Found.{Found}
 use Rattle.hv_logic.specs.declared.meaning.Meaning.{Meaning}
-use Rattle.hv_logic.specs.declared.meaning.Meaning.TheVariants.{Refused, Listing, Change, Make, Unmake, Plain, Twice, RowLimit, PartitionLimit}
+use Rattle.hv_logic.specs.declared.meaning.Meaning.TheVariants.{Refused, Listing, Change, Make, Unmake, Ask, Plain, Twice, RowLimit, PartitionLimit}
 use Rattle.hv_route.specs.declared.placed.Placed.{Placed}
 use Rattle.hv_route.specs.declared.runs.Run.{Run}
 use Rattle.hv_route.specs.Placing.{placed_cmp, runs_of}
@@ -32,10 +32,10 @@ use Rattle.hv_history.specs.declared.state.Transaction.{Transaction}
 use Rattle.hv_history.specs.declared.state.Written.{Written}
 use Rattle.hv_history.specs.State.{State, numbered, changed, given_in, meaning, writes_of, written_by, wrote_as, changed_at, commits, tables_behind, written_to, unless_ended, while_open, opened, started, given_id, committed, ended, acted, after, nothing_yet}
 use Rattle.hv_history.specs.Legal.{CommitFits, IsOwnTouch, TouchesAreMeant, CommitIsTrue, IsTruthful, AllTruthful, Fits, AllFit}
-use Rattle.hv_stands.specs.Sound.{info_in, given_of, owners_of, given_among, IsSingle, IsSound}
-use Rattle.hv_stands.proofs.Numbers.{one_value, none_is, same_one, found, numbered-map, numbered-or-last, changed-here}
-use Rattle.hv_stands.proofs.Soundness.{all-numbered}
-use Rattle.hv_stands.proofs.Keeping.{owner-table, sound-after, nothing-sound}
+use Rattle.hv_law_directories.specs.hv_stands.specs.Sound.{info_in, given_of, owners_of, given_among, IsSingle, IsSound}
+use Rattle.hv_law_directories.specs.hv_stands.proofs.Numbers.{one_value, none_is, same_one, found, numbered-map, numbered-or-last, changed-here}
+use Rattle.hv_law_directories.specs.hv_stands.proofs.Soundness.{all-numbered}
+use Rattle.hv_law_directories.specs.hv_stands.proofs.Keeping.{owner-table, sound-after, nothing-sound}
 use Rattle.hv_law_visible.specs.Members.{IsIn}
 use Rattle.hv_law_visible.proofs.MemberLemmas.{in-left, in-right, in-either, in-flat, in-map, from-map}
 use Rattle.hv_law_visible.proofs.SortingLemmas.{from-sorted, to-sorted}
@@ -258,6 +258,7 @@ says-none t wrote own (Some (Change info effect)) truth none = by wrote own trut
         absurd (full (given_in info.table.0 t.given) write.0 (ap (λ n. given_in n t.given) (sym table) ∙ write.1) none)
 says-none t wrote own (Some (Make shape)) truth none = absurd truth
 says-none t wrote own (Some (Unmake table)) truth none = absurd truth
+says-none t wrote own (Some (Ask table region kind)) truth none = truth
 says-none t wrote own (Some Plain) truth none = truth
 says-none t wrote own (Some (Twice region row)) truth none = absurd truth
 says-none t wrote own (Some RowLimit) truth none = absurd truth

@@ -10,8 +10,8 @@ use Rattle.hv_history.specs.declared.state.Transaction.{Transaction}
 use Rattle.hv_history.specs.State.{State, Job, numbered, changed, first_of, asked_job, picked, published_at, empty_at, failed_at, cleaned, acted, after, state_of}
 use Rattle.hv_history.specs.JobsFit.{PublishedFits}
 use Rattle.hv_history.specs.Legal.{Fits, AllFit}
-use Rattle.hv_stands.proofs.Numbers.{one_value, found, numbered-or-last}
-use Rattle.hv_stands.proofs.Behind.{one-behind, entries-are, one-longer}
+use Rattle.hv_law_directories.specs.hv_stands.proofs.Numbers.{one_value, found, numbered-or-last}
+use Rattle.hv_law_directories.specs.hv_stands.proofs.Behind.{one-behind, entries-are, one-longer}
 use Rattle.hv_law_jobs.proofs.OrderLemmas.{number-there}
 use Rattle.hv_law_directories.specs.hv_law_partitions.proofs.StoodLemmas.{changed-from}
 use Rattle.hv_law_whole.proofs.OnceLemmas.{Takes, takes-of}

@@ -11,7 +11,7 @@ use Rattle.hv_history.specs.declared.entry.JobKind.TheVariants as kind
 use Rattle.hv_history.specs.declared.state.Table.{Table}
 use Rattle.hv_history.specs.declared.state.Written.{Written}
 use Rattle.hv_history.specs.State.{State, Job, numbered}
-use Rattle.hv_stands.specs.Files.{IsSaid}
+use Rattle.hv_law_directories.specs.hv_stands.specs.Files.{IsSaid}
 use Rattle.hv_history.specs.Jobs.{jobs_of}
 use Rattle.hv_law_made.specs.Named.{HasNames}
 use Rattle.hv_law_made.specs.Standing.{Standing}

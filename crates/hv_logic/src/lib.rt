@@ -1,6 +1,9 @@
 //! What statements mean over tables: the types and the definitions.
 #![tactic(auto)]
 
+pub use hv_ast;
+pub use hv_value;
+
 mod catalog;
 mod effect;
 mod found;

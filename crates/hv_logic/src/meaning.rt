@@ -1,5 +1,6 @@
 use crate::catalog::{Shape, TableInfo};
 use crate::effect::Effect;
+use hv_ast::CompactionKind;
 use hv_base::{List, Refusal, RowId, TableId, Text};
 use hv_value::Row;
 
@@ -16,6 +17,8 @@ pub enum Meaning {
     Make(Shape),
     /// The end of a table.
     Unmake(TableId),
+    /// A compaction of this kind of a partition of a table.
+    Ask(TableId, Text, CompactionKind),
     /// Nothing that the book keeps.
     Plain,
     /// A MERGE whose clauses are of matched rows, where two source rows match one row of the target: the least such row, by its

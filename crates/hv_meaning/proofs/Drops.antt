@@ -5,18 +5,18 @@ use Rattle.hv_base.specs.declared.refusal.Refusal.TheVariants as refusal
 use Rattle.hv_ast.specs.declared.statement.Stmt.{Stmt}
 use Rattle.hv_ast.specs.declared.statement.Stmt.TheVariants as stmt
 use Rattle.hv_ast.specs.declared.table.DropTable.{DropTable}
-use Rattle.hv_logic.specs.declared.catalog.TableInfo.{TableInfo}
-use Rattle.hv_logic.specs.declared.effect.Found.{Found}
-use Rattle.hv_logic.specs.declared.meaning.Meaning.{Meaning}
-use Rattle.hv_logic.specs.declared.meaning.Meaning.TheVariants.{Unmake}
-use Rattle.hv_logic.specs.declared.seen.Seen.{Seen}
-use Rattle.hv_logic.specs.Tables.{named}
+use Rattle.hv_typing.specs.hv_logic.specs.declared.catalog.TableInfo.{TableInfo}
+use Rattle.hv_typing.specs.hv_logic.specs.declared.effect.Found.{Found}
+use Rattle.hv_typing.specs.hv_logic.specs.declared.meaning.Meaning.{Meaning}
+use Rattle.hv_typing.specs.hv_logic.specs.declared.meaning.Meaning.TheVariants.{Unmake}
+use Rattle.hv_typing.specs.hv_logic.specs.declared.seen.Seen.{Seen}
+use Rattle.hv_typing.specs.hv_logic.specs.Tables.{named}
 use Rattle.hv_typing.specs.Rows.{Tables, source_frames}
 use Rattle.hv_typing.specs.declared.change.TypedChange.{TypedChange}
 use Rattle.hv_typing.specs.declared.merge.TypedMerge.{TypedMerge}
 use Rattle.hv_typing.specs.declared.logic.Logic.{Logic}
 use Rattle.hv_typing.specs.declared.logic.Logic.TheVariants as logic
-use Rattle.hv_typing.specs.Analysis.{form_analysed, query_analysed, change_analysed, merge_analysed}
+use Rattle.hv_typing.specs.Analysis.{form_analysed, query_analysed, explain_analysed, change_analysed, merge_analysed}
 use Rattle.hv_typing.specs.Changes.{change_of}
 use Rattle.hv_typing.specs.Columns.{columns_of}
 use Rattle.hv_typing.specs.Creates.{created, place_of, is_table}
@@ -25,11 +25,12 @@ use Rattle.hv_typing.specs.Drops.{dropped, dropped_at}
 use Rattle.hv_typing.specs.Merges.{merged}
 use Rattle.hv_typing.specs.Shows.{show_analysed}
 use Rattle.hv_typing.specs.Settings.{set_analysed}
+use Rattle.hv_typing.specs.Asks.{asked}
 use Rattle.hv_typing.specs.Subqueries.{selected}
 use Rattle.hv_meaning.specs.Meaning.{its_tables, info_of, found_in, tables_of, stored_row, change_effect, or_none, changed_in, merged_in, meant, meaning_in, meaning_of}
 use Rattle.hv_meaning.specs.Merging.{twice_found, merge_effect}
 use Rattle.hv_meaning.specs.Laws.{DropsNamed, DropsAreNamed}
-use Rattle.hv_meaning.proofs.Outcomes.{OnOk, then-ok, if-ok, creates-are, describes-are, shows-are, settings-are}
+use Rattle.hv_meaning.proofs.Outcomes.{OnOk, then-ok, if-ok, creates-are, describes-are, explains-are, shows-are, settings-are, compacts-are, asking-is}
 use Rattle.hv_meaning.proofs.Limits.{limits-come}
 use Rattle.hv_meaning.proofs.Merges.{merges-come}
 use Rattle.hv_meaning.proofs.Meanings.{Comes, meant-is, form-is, infos_of, place-first, named-same}
@@ -72,6 +73,8 @@ module _ (tree : Stmt) (tables : List Seen) (infos : List TableInfo) (found : Li
   comes-stays (logic.Unmake table) stays = absurd stays
   comes-stays logic.Nothing stays = tt
   comes-stays (logic.Describe columns) stays = tt
+  comes-stays (logic.Explain query) stays = tt
+  comes-stays (logic.Ask ask) stays = asking-is (Unmakes tree tables) ask (λ short. tt) tt
 
   on-stays : (r : Result Logic Refusal) → OnOk Stays r → OnOk (Comes (Unmakes tree tables) tt (λ why. tt) infos found) r
   on-stays (Ok typed) stays = comes-stays typed stays
@@ -136,7 +139,13 @@ unmakes-form (stmt.Describe table) tables =
 unmakes-form (stmt.Show what) tables =
     let infos = its_infos (stmt.Show what) tables in
     stays-form (stmt.Show what) tables (show_analysed infos what) (shows-are Stays infos what tt)
+unmakes-form (stmt.Compact compact) tables =
+    let infos = its_infos (stmt.Compact compact) tables in
+    stays-form (stmt.Compact compact) tables (asked infos compact) (compacts-are Stays infos compact (λ ask. tt))
 unmakes-form (stmt.Set setting) tables = stays-form (stmt.Set setting) tables (set_analysed setting) (settings-are Stays setting tt)
+unmakes-form (stmt.Explain query) tables =
+    let infos = its_infos (stmt.Explain query) tables in
+    stays-form (stmt.Explain query) tables (explain_analysed infos query) (explains-are Stays infos query (λ typed. tt))
 unmakes-form other tables = tt
 
 unmakes-all : (tree : Stmt) (tables : List Seen) → Unmakes tree tables (meaning_of tables tree)

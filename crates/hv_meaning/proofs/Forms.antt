@@ -21,16 +21,17 @@ use Rattle.hv_ast.specs.declared.statement.Show.{Show}
 use Rattle.hv_ast.specs.declared.statement.Show.TheVariants as show
 use Rattle.hv_ast.specs.declared.statement.Stmt.{Stmt}
 use Rattle.hv_ast.specs.declared.statement.Stmt.TheVariants as stmt
+use Rattle.hv_ast.specs.declared.table.Compact.{Compact}
 use Rattle.hv_ast.specs.declared.table.CreateTable.{CreateTable}
 use Rattle.hv_ast.specs.declared.table.DropTable.{DropTable}
 use Rattle.hv_value.specs.declared.sql_type.SqlType.{SqlType}
 use Rattle.hv_value.specs.Conversion.{is_convertible}
-use Rattle.hv_expr.specs.declared.tree.TypedExpr.{TypedExpr}
-use Rattle.hv_logic.specs.declared.catalog.Column.{Column}
-use Rattle.hv_logic.specs.declared.catalog.Shape.{Shape}
-use Rattle.hv_logic.specs.declared.catalog.TableInfo.{TableInfo}
-use Rattle.hv_logic.specs.declared.effect.Found.{Found}
-use Rattle.hv_logic.specs.Shapes.{bucket_names}
+use Rattle.hv_typing.specs.hv_expr.specs.declared.tree.TypedExpr.{TypedExpr}
+use Rattle.hv_typing.specs.hv_logic.specs.declared.catalog.Column.{Column}
+use Rattle.hv_typing.specs.hv_logic.specs.declared.catalog.Shape.{Shape}
+use Rattle.hv_typing.specs.hv_logic.specs.declared.catalog.TableInfo.{TableInfo}
+use Rattle.hv_typing.specs.hv_logic.specs.declared.effect.Found.{Found}
+use Rattle.hv_typing.specs.hv_logic.specs.Shapes.{bucket_names}
 use Rattle.hv_typing.specs.declared.scope.Field.{Field}
 use Rattle.hv_typing.specs.declared.scope.Over.TheVariants as over
 use Rattle.hv_typing.specs.Faults.{and_then}
@@ -54,17 +55,18 @@ use Rattle.hv_typing.specs.Targets.{value_typed, column_named, if_new, static_of
 use Rattle.hv_typing.specs.Updates.{is_fixed, is_set, if_free, place_set, value_set, kept, one_set, all_set, sets_of, updated, deleted, partitions_met, truncated}
 use Rattle.hv_typing.specs.declared.logic.Logic.{Logic}
 use Rattle.hv_typing.specs.declared.logic.Logic.TheVariants as logic
-use Rattle.hv_typing.specs.Analysis.{is_windowless, is_windowless_source, are_windowless, is_form, query_analysed, change_analysed, merge_analysed, form_analysed, analysed}
+use Rattle.hv_typing.specs.Analysis.{is_windowless, is_windowless_source, are_windowless, is_form, query_analysed, explain_analysed, change_analysed, merge_analysed, form_analysed, analysed}
 use Rattle.hv_typing.specs.Changes.{source_inserted, inserted, changing, changing_table, changing_at, change_of}
 use Rattle.hv_typing.specs.Creates.{place_of, created, made, fault_of, unless_fault, names_repeat, is_bucket_column, arrays_route, numbers_fit, is_unkept}
 use Rattle.hv_typing.specs.Drops.{dropped, dropped_as, dropped_at}
 use Rattle.hv_typing.specs.Descriptions.{described, described_as, described_at}
 use Rattle.hv_typing.specs.Shows.{partitions_as, partitions_at, partitions_shown, show_analysed}
 use Rattle.hv_typing.specs.Settings.{set_analysed, takes_value}
+use Rattle.hv_typing.specs.Asks.{value_as, item_typed, column_typed, items_typed, columns_typed, asked_values, is_whole_list, list_typed, asked_as, asked_at, asked}
 use Rattle.hv_typing.specs.Subqueries.{selected}
 use Rattle.hv_meaning.specs.Meaning.{its_tables, info_of, found_in, tables_of, changed_in, merged_in, refused_for, meant, meaning_in}
 use Rattle.hv_meaning.specs.Laws.{MeansSomething, FormsMean, OtherFormsMeanNothing}
-use Rattle.hv_meaning.proofs.Outcomes.{OnOk, on_ok, then-ok, IsChangeOf, changes-are, creates-are, drops-are, describes-are, shows-are, settings-are}
+use Rattle.hv_meaning.proofs.Outcomes.{OnOk, on_ok, then-ok, IsChangeOf, changes-are, creates-are, drops-are, describes-are, explains-are, shows-are, settings-are, compacts-are}
 use Rattle.hv_meaning.proofs.Queries.{free-filter, free-selected, free-brought}
 use Rattle.hv_meaning.proofs.Merges.{IsMergeOf, merges-are}
 use Rattle.hv_meaning.proofs.Typed.{IsOther, Free, free-then, free-if, free-front, free-each, free-placed, typed-free}
@@ -81,6 +83,9 @@ is_change _ = false
 
 free-queried : (tables : List TableInfo) (query : Query Source) → is_windowless query ≡ true → Free (query_analysed tables query)
 free-queried tables query e = free-then (selected tables query) _ (free-selected tables query e) (λ typed. tt)
+
+free-explained : (tables : List TableInfo) (query : Query Source) → is_windowless query ≡ true → Free (explain_analysed tables query)
+free-explained tables query e = free-then (selected tables query) _ (free-selected tables query e) (λ typed. tt)
 
 free-new : (repeated : Bool) (found : Option Column) → Free (if_new repeated found)
 free-new repeated None = tt
@@ -368,6 +373,30 @@ free-setting : (setting : Setting) → Free (set_analysed setting)
 unfolding set_analysed
 free-setting setting = free-if (takes_value setting) _ _ tt tt
 
+free-value-as : (column : Option Column) (x : Option Expr) → Free (value_as column x)
+free-value-as None x = tt
+free-value-as (Some column) None = tt
+free-value-as (Some column) (Some x) = free-static column.kind x
+
+free-list : (parts : List Column) (items : List PartitionItem) → Free (list_typed parts items)
+unfolding list_typed asked_values items_typed columns_typed
+free-list parts items =
+    free-if (is_whole_list parts items) _ _
+    (free-then (items_typed parts items) _ (free-each (item_typed parts) items (λ item. free-value-as (column_named item.name parts) item.value)) (λ firsts.
+    free-each (column_typed items) parts (λ column. free-value-as (Some column) (static_of items column.name)))) tt
+
+free-asked : (tables : List TableInfo) (compact : Compact) → Free (asked tables compact)
+unfolding asked
+free-asked tables compact = at (place_of compact.table tables)
+  where
+    told : (info : Option TableInfo) → Free (asked_as compact info)
+    told None = tt
+    told (Some info) = free-then (list_typed info.shape.parts compact.partition) _ (free-list info.shape.parts compact.partition) (λ values. tt)
+
+    at : (place : Option ℕ) → Free (asked_at tables compact place)
+    at None = tt
+    at (Some place) = told (slice_get tables place)
+
 -- ---- what isn't refused as Syntax means something
 
 some-other : (why : Refusal) → IsOther why → MeansSomething (refused_for why)
@@ -424,9 +453,13 @@ means-form (stmt.Describe table) infos found e =
     free-means infos found (described infos table) (free-described infos table) (describes-are (Means infos found) infos table (λ columns. tt))
 means-form (stmt.Show what) infos found e =
     free-means infos found (show_analysed infos what) (free-shown infos what) (shows-are (Means infos found) infos what tt)
+means-form (stmt.Compact compact) infos found e =
+    free-means infos found (asked infos compact) (free-asked infos compact) (compacts-are (Means infos found) infos compact (λ ask. tt))
 means-form (stmt.Set setting) infos found e =
     free-means infos found (set_analysed setting) (free-setting setting) (settings-are (Means infos found) setting tt)
 means-form (stmt.AbortTransactions txns) infos found e = tt
+means-form (stmt.Explain query) infos found e =
+    free-means infos found (explain_analysed infos query) (free-explained infos query e) (explains-are (Means infos found) infos query (λ typed. tt))
 means-form other infos found e = cc
 
 pub forms-mean : FormsMean

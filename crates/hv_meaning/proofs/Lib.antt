@@ -7,6 +7,8 @@ mod Typed
 mod Queries
 pub mod Meanings
 mod Drops
+mod Asks
 pub mod Forms
 pub mod Unseen
+pub mod Narrow
 pub mod Requests

@@ -9,11 +9,11 @@ use Rattle.hv_ast.specs.declared.types.ScalarName.{ScalarName}
 use Rattle.hv_ast.specs.declared.types.ScalarName.TheVariants as scalar
 use Rattle.hv_ast.specs.declared.types.TypeName.{TypeName}
 use Rattle.hv_ast.specs.declared.types.TypeName.TheVariants as type_name
-use Rattle.hv_logic.specs.Shapes.{scalar_of, type_of, column_of}
-use Rattle.hv_logic.specs.declared.catalog.TableInfo.{TableInfo}
-use Rattle.hv_logic.specs.declared.effect.Effect.{Effect}
-use Rattle.hv_logic.specs.declared.meaning.Meaning.{Meaning}
-use Rattle.hv_logic.specs.declared.meaning.Meaning.TheVariants.{Change, RowLimit, PartitionLimit}
+use Rattle.hv_typing.specs.hv_logic.specs.Shapes.{scalar_of, type_of, column_of}
+use Rattle.hv_typing.specs.hv_logic.specs.declared.catalog.TableInfo.{TableInfo}
+use Rattle.hv_typing.specs.hv_logic.specs.declared.effect.Effect.{Effect}
+use Rattle.hv_typing.specs.hv_logic.specs.declared.meaning.Meaning.{Meaning}
+use Rattle.hv_typing.specs.hv_logic.specs.declared.meaning.Meaning.TheVariants.{Change, RowLimit, PartitionLimit}
 use Rattle.hv_route.specs.Back.{is_flat, AreFlat}
 use Rattle.hv_route.specs.Touching.{stored_fits, is_long, is_above, touches_of, touched}
 use Rattle.hv_route.specs.declared.fault.RouteFault.{RouteFault}

@@ -19,6 +19,8 @@ use Rattle.hv_ast.specs.declared.statement.Setting.{Setting}
 use Rattle.hv_ast.specs.declared.statement.Show.{Show}
 use Rattle.hv_ast.specs.declared.statement.Stmt.{Stmt}
 use Rattle.hv_ast.specs.declared.statement.Stmt.TheVariants as stmt
+use Rattle.hv_ast.specs.declared.table.Compact.{Compact}
+use Rattle.hv_ast.specs.declared.table.CompactionKind.{CompactionKind}
 use Rattle.hv_ast.specs.declared.table.CreateTable.{CreateTable}
 use Rattle.hv_ast.specs.declared.table.DropTable.{DropTable}
 use Rattle.hv_value.specs.declared.row.Row.{Row}
@@ -30,20 +32,20 @@ use Rattle.hv_value.specs.declared.value.Value.TheVariants.{rolls-Null}
 use Rattle.hv_value.specs.declared.value.Value.TheViews.{out-Value, out-roll-Value}
 use Rattle.hv_value.specs.Conversion.{is_of, is_layer_in}
 use Rattle.hv_value.proofs.ConversionLemmas.{converted-is_of}
-use Rattle.hv_expr.specs.declared.tree.TypedExpr.{TypedExpr}
-use Rattle.hv_expr.specs.Evaluation.{value_of}
-use Rattle.hv_logic.specs.declared.catalog.Column.{Column}
-use Rattle.hv_logic.specs.declared.catalog.Shape.{Shape}
-use Rattle.hv_logic.specs.declared.catalog.TableInfo.{TableInfo}
-use Rattle.hv_logic.specs.declared.effect.Effect.{Effect}
-use Rattle.hv_logic.specs.declared.effect.Found.{Found}
-use Rattle.hv_logic.specs.declared.meaning.Meaning.{Meaning}
-use Rattle.hv_logic.specs.declared.meaning.Meaning.TheVariants.{Refused, Listing, Change, Make, Unmake, Plain}
-use Rattle.hv_logic.specs.declared.seen.Seen.{Seen}
-use Rattle.hv_logic.specs.Tables.{named}
-use Rattle.hv_logic.specs.Shapes.{column_of, shape_of, bucket_names}
+use Rattle.hv_typing.specs.hv_expr.specs.declared.tree.TypedExpr.{TypedExpr}
+use Rattle.hv_typing.specs.hv_expr.specs.Evaluation.{value_of}
+use Rattle.hv_typing.specs.hv_logic.specs.declared.catalog.Column.{Column}
+use Rattle.hv_typing.specs.hv_logic.specs.declared.catalog.Shape.{Shape}
+use Rattle.hv_typing.specs.hv_logic.specs.declared.catalog.TableInfo.{TableInfo}
+use Rattle.hv_typing.specs.hv_logic.specs.declared.effect.Effect.{Effect}
+use Rattle.hv_typing.specs.hv_logic.specs.declared.effect.Found.{Found}
+use Rattle.hv_typing.specs.hv_logic.specs.declared.meaning.Meaning.{Meaning}
+use Rattle.hv_typing.specs.hv_logic.specs.declared.meaning.Meaning.TheVariants.{Refused, Listing, Change, Make, Unmake, Ask, Plain, PartitionLimit}
+use Rattle.hv_typing.specs.hv_logic.specs.declared.seen.Seen.{Seen}
+use Rattle.hv_typing.specs.hv_logic.specs.Tables.{named}
+use Rattle.hv_typing.specs.hv_logic.specs.Shapes.{column_of, shape_of, bucket_names}
 use Rattle.hv_locks.specs.declared.table.Lock.{Lock}
-use Rattle.hv_logic.specs.Names.{shared, rows_names, source_names}
+use Rattle.hv_typing.specs.hv_logic.specs.Names.{shared, rows_names, source_names}
 use Rattle.hv_route.specs.Back.{AreFlat}
 use Rattle.hv_route.specs.Touching.{touched}
 use Rattle.hv_typing.specs.Rows.{Frame, Tables, is_met, source_frames}
@@ -60,17 +62,18 @@ use Rattle.hv_typing.specs.declared.change.TypedChange.{TypedChange}
 use Rattle.hv_typing.specs.Columns.{columns_of}
 use Rattle.hv_typing.specs.declared.logic.Logic.{Logic}
 use Rattle.hv_typing.specs.declared.logic.Logic.TheVariants as logic
-use Rattle.hv_typing.specs.Analysis.{analysed, form_analysed, is_form, query_analysed, change_analysed, merge_analysed}
+use Rattle.hv_typing.specs.Analysis.{analysed, form_analysed, is_form, query_analysed, explain_analysed, change_analysed, merge_analysed}
 use Rattle.hv_typing.specs.Creates.{created, created_beside, place_of, is_table, fault_of, names_repeat, is_bucket_column, has_array, is_array_named, arrays_route, numbers_fit}
 use Rattle.hv_typing.specs.Changes.{changing, change_of}
 use Rattle.hv_typing.specs.Drops.{dropped}
 use Rattle.hv_typing.specs.Descriptions.{described}
 use Rattle.hv_typing.specs.Shows.{show_analysed}
 use Rattle.hv_typing.specs.Settings.{set_analysed}
+use Rattle.hv_typing.specs.Asks.{asked}
 use Rattle.hv_typing.specs.Subqueries.{selected}
 use Rattle.hv_meaning.specs.Meaning.{its_tables, named_by, info_of, found_in, tables_of, is_matched, matched, frames_from, first_value, stored_values, stored_row, is_received, deleted, change_effect, within_limits, or_none, changed_in, merge_of, merged_in, refused_for, meant, meaning_in, meaning_of}
 use Rattle.hv_meaning.specs.Laws.{MakesNew, TablesAreNew, AreOf, IsRowOf, AreOfRows, change_name, ChangesNamed, ChangesAreNamed, ChangesSeen, ChangesAreSeen, only_inserts, InsertsDeleteNothing}
-use Rattle.hv_meaning.proofs.Outcomes.{OnOk, on_ok, then-ok, IsGone, IsChangeOf, inserts-are, changes-are, creates-are, drops-are, describes-are, shows-are, settings-are, makes}
+use Rattle.hv_meaning.proofs.Outcomes.{OnOk, on_ok, then-ok, IsGone, IsChangeOf, inserts-are, changes-are, creates-are, drops-are, describes-are, explains-are, shows-are, settings-are, compacts-are, asking-is, makes}
 use Rattle.hv_meaning.proofs.Stored.{both}
 use Rattle.hv_meaning.proofs.Limits.{neither, limits-come, fits-table, flat-columns}
 use Rattle.hv_meaning.proofs.Merges.{IsMergeOf, merges-are, merges-come, all-both, all-made}
@@ -113,11 +116,23 @@ module _ (P : Option Meaning → Type 0) (unbuilt : P None) (refused : (why : Re
   describes-come infos found name listing =
       meant-is infos found (described infos name) (describes-are (Comes infos found) infos name (λ columns. listing _ _))
 
+  pub explains-come : (infos : List TableInfo) (found : List (List Found)) (query : Query Source) → ((names : List (List ℕ)) (rows : List Row) → P (Some (Listing names rows)))
+      → P (meant infos found (explain_analysed infos query))
+  explains-come infos found query listing =
+      meant-is infos found (explain_analysed infos query) (explains-are (Comes infos found) infos query (λ typed. listing _ _))
+
   pub shows-come : (infos : List TableInfo) (found : List (List Found)) (what : Show) → P (Some Plain) → P (meant infos found (show_analysed infos what))
   shows-come infos found what plain = meant-is infos found (show_analysed infos what) (shows-are (Comes infos found) infos what plain)
 
   pub settings-come : (infos : List TableInfo) (found : List (List Found)) (setting : Setting) → P (Some Plain) → P (meant infos found (set_analysed setting))
   settings-come infos found setting plain = meant-is infos found (set_analysed setting) (settings-are (Comes infos found) setting plain)
+
+  pub compacts-come : (infos : List TableInfo) (found : List (List Found)) (compact : Compact)
+      → ((table : TableId) (partition : List ℕ) (kind : CompactionKind) → P (Some (Ask table partition kind))) → P (Some PartitionLimit)
+      → P (meant infos found (asked infos compact))
+  compacts-come infos found compact asks long =
+      meant-is infos found (asked infos compact)
+      (compacts-are (Comes infos found) infos compact (λ ask. asking-is P ask (λ short. asks ask.table.table _ ask.kind) long))
 
 -- ---- places of names
 
@@ -363,8 +378,8 @@ module _ (tree : Stmt) (tables : List Seen) (name : List ℕ) (locks : List Lock
 
   change-named : change_name tree ≡ Some name → Named tree tables (meant (map info_of its) (map found_in its) (change_analysed (map info_of its) name tree))
   change-named names =
-      meant-is (Named tree tables) tt (λ why. tt) (map info_of its) (map found_in its) _
-      (then-ok (Comes (Named tree tables) tt (λ why. tt) (map info_of its) (map found_in its)) (change_of (map info_of its) name tree) _ (λ change e.
+      meant-is (Named tree tables) tt (λ why. tt) (map info_of its) (map found_in its) (change_analysed (map info_of its) name tree)
+      (then-ok (Comes (Named tree tables) tt (λ why. tt) (map info_of its) (map found_in its)) (change_of (map info_of its) name tree) (λ (change : TypedChange). Ok (logic.Change change)) (λ change e.
       target-named names change
       (on_ok (IsChangeOf (map info_of its) name tree) (change_of (map info_of its) name tree) change (changes-are (map info_of its) name tree) e)))
 
@@ -389,8 +404,8 @@ module _ (merge : Merge) (tables : List Seen) (locks : List Lock) where
       let infos = map info_of all_of in
       let found = map found_in all_of in
       let N = Named (stmt.Merge merge) tables in
-      meant-is N tt (λ why. tt) infos found _
-      (then-ok (Comes N tt (λ why. tt) infos found) (merged infos merge) _ (λ typed e.
+      meant-is N tt (λ why. tt) infos found (merge_analysed infos merge)
+      (then-ok (Comes N tt (λ why. tt) infos found) (merged infos merge) (λ (typed : TypedMerge). Ok (logic.Merge typed)) (λ typed e.
       merge-named typed (on_ok (IsMergeOf infos merge.table) (merged infos merge) typed (merges-are infos merge) e)))
 
 named-form : (tree : Stmt) (tables : List Seen)
@@ -410,12 +425,16 @@ named-form (stmt.CreateTable create) tables =
 named-form (stmt.DropTable dropping) tables = drops-come (Named (stmt.DropTable dropping) tables) tt (λ why. tt) _ _ dropping tt (λ table. tt)
 named-form (stmt.Describe table) tables =
     describes-come (Named (stmt.Describe table) tables) tt (λ why. tt) _ _ table (λ names rows. tt)
+named-form (stmt.Compact compact) tables =
+    let own = its_tables (stmt.Compact compact) tables in
+    compacts-come (Named (stmt.Compact compact) tables) tt (λ why. tt) (map info_of own) (map found_in own) compact (λ table partition kind. tt) tt
 named-form (stmt.Show what) tables =
     let own = its_tables (stmt.Show what) tables in
     shows-come (Named (stmt.Show what) tables) tt (λ why. tt) (map info_of own) (map found_in own) what tt
 named-form (stmt.Set setting) tables =
     let own = its_tables (stmt.Set setting) tables in
     settings-come (Named (stmt.Set setting) tables) tt (λ why. tt) (map info_of own) (map found_in own) setting tt
+named-form (stmt.Explain query) tables = explains-come (Named (stmt.Explain query) tables) tt (λ why. tt) _ _ query (λ names rows. tt)
 named-form other tables = tt
 
 named-all : (tree : Stmt) (tables : List Seen) → Named tree tables (meaning_of tables tree)
@@ -492,6 +511,8 @@ any-seen tables (Ok (logic.Make shape)) = tt
 any-seen tables (Ok (logic.Unmake table)) = tt
 any-seen tables (Ok logic.Nothing) = tt
 any-seen tables (Ok (logic.Describe columns)) = tt
+any-seen tables (Ok (logic.Explain query)) = tt
+any-seen tables (Ok (logic.Ask ask)) = asking-is (SeenOf tables) ask (λ short. tt) tt
 any-seen tables (Err why) = refused-is (SeenOf tables) tt (λ other. tt) why
 
 pub changes-seen : ChangesAreSeen
@@ -530,8 +551,8 @@ insert-keeps tables place shape insert into =
 keeps-change : (infos : List TableInfo) (found : List (List Found)) (insert : Insert) → not insert.overwrite ≡ true
     → Keeps (meant infos found (change_analysed infos insert.table (stmt.Insert insert)))
 keeps-change infos found insert into =
-    meant-is Keeps tt (λ why. tt) infos found _
-    (then-ok (Comes Keeps tt (λ why. tt) infos found) (change_of infos insert.table (stmt.Insert insert)) _ (λ change e.
+    meant-is Keeps tt (λ why. tt) infos found (change_analysed infos insert.table (stmt.Insert insert))
+    (then-ok (Comes Keeps tt (λ why. tt) infos found) (change_of infos insert.table (stmt.Insert insert)) (λ (change : TypedChange). Ok (logic.Change change)) (λ change e.
     let is = on_ok (IsChangeOf infos insert.table (stmt.Insert insert)) (change_of infos insert.table (stmt.Insert insert)) change (changes-are infos insert.table (stmt.Insert insert)) e in
     change-keeps (slice_get infos change.table) (slice_get found change.table) (tables_of found) change
     (on_ok GoesNothing (changing infos is.place is.info.shape (stmt.Insert insert)) change (insert-keeps infos is.place is.info.shape insert into) is.is)))
@@ -610,8 +631,8 @@ changed-makes tree tables (Some info) found rows change =
 change-makes : (tree : Stmt) (tables : List Seen) (infos : List TableInfo) (found : List (List Found)) (name : List ℕ) (said : Stmt)
     → MakesAt tree tables (meant infos found (change_analysed infos name said))
 change-makes tree tables infos found name said =
-    meant-is (MakesAt tree tables) tt (λ why. tt) infos found _
-    (then-ok (Comes (MakesAt tree tables) tt (λ why. tt) infos found) (change_of infos name said) _ (λ change e.
+    meant-is (MakesAt tree tables) tt (λ why. tt) infos found (change_analysed infos name said)
+    (then-ok (Comes (MakesAt tree tables) tt (λ why. tt) infos found) (change_of infos name said) (λ (change : TypedChange). Ok (logic.Change change)) (λ change e.
     changed-makes tree tables (slice_get infos change.table) (slice_get found change.table) (tables_of found) change))
 
 merge-makes-in : (tree : Stmt) (tables : List Seen) (info : Option TableInfo) (found : Option (List Found)) (rows : Tables) (merge : TypedMerge)
@@ -626,8 +647,8 @@ merge-makes : (merge : Merge) (tables : List Seen) (infos : List TableInfo) (fou
     → MakesAt (stmt.Merge merge) tables (meant infos found (merge_analysed infos merge))
 merge-makes merge tables infos found =
     let M = MakesAt (stmt.Merge merge) tables in
-    meant-is M tt (λ why. tt) infos found _
-    (then-ok (Comes M tt (λ why. tt) infos found) (merged infos merge) _ (λ typed e.
+    meant-is M tt (λ why. tt) infos found (merge_analysed infos merge)
+    (then-ok (Comes M tt (λ why. tt) infos found) (merged infos merge) (λ (typed : TypedMerge). Ok (logic.Merge typed)) (λ typed e.
     merge-makes-in (stmt.Merge merge) tables (slice_get infos typed.table) (slice_get found typed.table) (tables_of found) typed))
 
 makes-form : (tree : Stmt) (tables : List Seen)
@@ -647,12 +668,16 @@ makes-form (stmt.CreateTable create) tables =
 makes-form (stmt.DropTable dropping) tables = drops-come (MakesAt (stmt.DropTable dropping) tables) tt (λ why. tt) _ _ dropping tt (λ table. tt)
 makes-form (stmt.Describe table) tables =
     describes-come (MakesAt (stmt.Describe table) tables) tt (λ why. tt) _ _ table (λ names rows. tt)
+makes-form (stmt.Compact compact) tables =
+    let own = its_tables (stmt.Compact compact) tables in
+    compacts-come (MakesAt (stmt.Compact compact) tables) tt (λ why. tt) (map info_of own) (map found_in own) compact (λ table partition kind. tt) tt
 makes-form (stmt.Show what) tables =
     let own = its_tables (stmt.Show what) tables in
     shows-come (MakesAt (stmt.Show what) tables) tt (λ why. tt) (map info_of own) (map found_in own) what tt
 makes-form (stmt.Set setting) tables =
     let own = its_tables (stmt.Set setting) tables in
     settings-come (MakesAt (stmt.Set setting) tables) tt (λ why. tt) (map info_of own) (map found_in own) setting tt
+makes-form (stmt.Explain query) tables = explains-come (MakesAt (stmt.Explain query) tables) tt (λ why. tt) _ _ query (λ names rows. tt)
 makes-form other tables = tt
 
 makes-all : (tree : Stmt) (tables : List Seen) → MakesAt tree tables (meaning_of tables tree)

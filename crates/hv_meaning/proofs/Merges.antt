@@ -6,13 +6,13 @@ use Rattle.hv_base.specs.declared.ids.Touch.{Touch}
 use Rattle.hv_base.specs.declared.refusal.Refusal.{Refusal}
 use Rattle.hv_base.specs.declared.refusal.Refusal.TheVariants as refusal
 use Rattle.hv_ast.specs.declared.change.Merge.{Merge}
-use Rattle.hv_expr.specs.declared.tree.TypedExpr.{TypedExpr}
-use Rattle.hv_logic.specs.declared.catalog.Shape.{Shape}
-use Rattle.hv_logic.specs.declared.catalog.TableInfo.{TableInfo}
-use Rattle.hv_logic.specs.declared.effect.Effect.{Effect}
-use Rattle.hv_logic.specs.declared.effect.Found.{Found}
-use Rattle.hv_logic.specs.declared.meaning.Meaning.{Meaning}
-use Rattle.hv_logic.specs.declared.meaning.Meaning.TheVariants.{Change, Twice, RowLimit, PartitionLimit}
+use Rattle.hv_typing.specs.hv_expr.specs.declared.tree.TypedExpr.{TypedExpr}
+use Rattle.hv_typing.specs.hv_logic.specs.declared.catalog.Shape.{Shape}
+use Rattle.hv_typing.specs.hv_logic.specs.declared.catalog.TableInfo.{TableInfo}
+use Rattle.hv_typing.specs.hv_logic.specs.declared.effect.Effect.{Effect}
+use Rattle.hv_typing.specs.hv_logic.specs.declared.effect.Found.{Found}
+use Rattle.hv_typing.specs.hv_logic.specs.declared.meaning.Meaning.{Meaning}
+use Rattle.hv_typing.specs.hv_logic.specs.declared.meaning.Meaning.TheVariants.{Change, Twice, RowLimit, PartitionLimit}
 use Rattle.hv_route.specs.Touching.{touched}
 use Rattle.hv_typing.specs.declared.merge.TypedClauses.{TypedClauses}
 use Rattle.hv_typing.specs.declared.merge.TypedMerge.{TypedMerge}

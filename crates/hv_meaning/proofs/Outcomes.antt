@@ -1,5 +1,6 @@
 -- What analysis can give, form by form.
 use Rattle.std.proofs.Common.{◌≡◌, ℕ, Bool, true, false, cond, ◌==◌, List, map, slice_get, length, Option, Some, None, Result, Ok, Err, refl, subst}
+use Rattle.std.specs.Prelude.{nat_le}
 use Rattle.std.specs.List.{list_all}
 use Rattle.hv_base.specs.declared.ids.TableId.{TableId}
 use Rattle.hv_base.specs.declared.refusal.Refusal.{Refusal}
@@ -11,26 +12,36 @@ use Rattle.hv_ast.specs.declared.change.Rows.{Rows}
 use Rattle.hv_ast.specs.declared.change.Rows.TheVariants as source_rows
 use Rattle.hv_ast.specs.declared.change.Truncate.{Truncate}
 use Rattle.hv_ast.specs.declared.change.Update.{Update}
+use Rattle.hv_ast.specs.declared.query.Query.{Query}
+use Rattle.hv_ast.specs.declared.query.Source.{Source}
 use Rattle.hv_ast.specs.declared.statement.Setting.{Setting}
 use Rattle.hv_ast.specs.declared.statement.Show.{Show}
 use Rattle.hv_ast.specs.declared.statement.Show.TheVariants as show
 use Rattle.hv_ast.specs.declared.statement.Stmt.{Stmt}
 use Rattle.hv_ast.specs.declared.statement.Stmt.TheVariants as stmt
+use Rattle.hv_ast.specs.declared.table.Compact.{Compact}
 use Rattle.hv_ast.specs.declared.table.CreateTable.{CreateTable}
 use Rattle.hv_ast.specs.declared.table.DropTable.{DropTable}
-use Rattle.hv_expr.specs.declared.tree.TypedExpr.{TypedExpr}
+use Rattle.hv_typing.specs.hv_expr.specs.declared.tree.TypedExpr.{TypedExpr}
 use Rattle.hv_value.specs.declared.sql_type.SqlType.{SqlType}
-use Rattle.hv_logic.specs.declared.catalog.Column.{Column}
-use Rattle.hv_logic.specs.declared.catalog.Shape.{Shape}
-use Rattle.hv_logic.specs.declared.catalog.TableInfo.{TableInfo}
-use Rattle.hv_logic.specs.Shapes.{shape_of}
+use Rattle.hv_typing.specs.hv_logic.specs.declared.catalog.Column.{Column}
+use Rattle.hv_typing.specs.hv_logic.specs.declared.catalog.Shape.{Shape}
+use Rattle.hv_typing.specs.hv_logic.specs.declared.catalog.TableInfo.{TableInfo}
+use Rattle.hv_typing.specs.hv_logic.specs.Shapes.{shape_of}
+use Rattle.hv_typing.specs.hv_logic.specs.declared.meaning.Meaning.{Meaning}
+use Rattle.hv_typing.specs.hv_logic.specs.declared.meaning.Meaning.TheVariants.{Ask, PartitionLimit}
+use Rattle.hv_route.specs.Touching.{text_limit}
 use Rattle.hv_typing.specs.Faults.{and_then}
 use Rattle.hv_typing.specs.Sources.{filter_typed}
+use Rattle.hv_typing.specs.declared.asks.TypedAsk.{TypedAsk}
 use Rattle.hv_typing.specs.declared.change.Deletes.{Deletes}
 use Rattle.hv_typing.specs.declared.change.Deletes.TheVariants as deletes
 use Rattle.hv_typing.specs.declared.change.Origin.{Origin}
 use Rattle.hv_typing.specs.declared.change.Origin.TheVariants as origin
 use Rattle.hv_typing.specs.declared.change.TypedChange.{TypedChange}
+use Rattle.hv_typing.specs.declared.tree.TypedQuery.{TypedQuery}
+use Rattle.hv_typing.specs.declared.tree.TypedSource.{TypedSource}
+use Rattle.hv_typing.specs.Analysis.{explain_analysed}
 use Rattle.hv_typing.specs.Columns.{columns_of, fields_of, kinds_of}
 use Rattle.hv_typing.specs.Inserts.{is_empty, rows_typed, has_count, converts, converted_row, output_kind, outputs_convert, values_for, overwritten, insert_of, insert_typed, if_convertible, values_inserted, query_inserted}
 use Rattle.hv_typing.specs.Targets.{targets_of}
@@ -42,8 +53,10 @@ use Rattle.hv_typing.specs.Drops.{dropped, dropped_as, dropped_at}
 use Rattle.hv_typing.specs.Descriptions.{described, described_as, described_at}
 use Rattle.hv_typing.specs.Shows.{partitions_as, partitions_at, partitions_shown, show_analysed}
 use Rattle.hv_typing.specs.Settings.{set_analysed, takes_value}
+use Rattle.hv_typing.specs.Asks.{list_typed, asked_of, asked_as, asked_at, asked}
 use Rattle.hv_typing.specs.Changes.{source_inserted, inserted, changing, changing_table, changing_at, change_of}
 use Rattle.hv_typing.specs.Subqueries.{selected}
+use Rattle.hv_meaning.specs.Meaning.{asked_partition, asking}
 
 -- ---- a fact of what is Ok
 
@@ -209,7 +222,7 @@ module _ (P : Logic → Type 0) where
       at None = dropped-is drop.if_exists None nothing each
       at (Some place) = dropped-is drop.if_exists (slice_get tables place) nothing each
 
--- ---- what a DESCRIBE, a SHOW and a SET can come to
+-- ---- what a DESCRIBE, an EXPLAIN, a SHOW and a SET can come to
 
 module _ (P : Logic → Type 0) where
   pub describes-are : (tables : List TableInfo) (name : List ℕ) → ((columns : List Column) → P (logic.Describe columns)) → OnOk P (described tables name)
@@ -223,6 +236,10 @@ module _ (P : Logic → Type 0) where
       at : (place : Option ℕ) → OnOk P (described_at tables place)
       at None = tt
       at (Some place) = told (slice_get tables place)
+
+  pub explains-are : (tables : List TableInfo) (query : Query Source) → ((typed : TypedQuery TypedSource) → P (logic.Explain typed))
+      → OnOk P (explain_analysed tables query)
+  explains-are tables query each = then-ok P (selected tables query) _ (λ typed e. each typed)
 
   parts-are : (empty : Bool) → P logic.Nothing → OnOk P (cond empty (Err refusal.BadCount) (Ok logic.Nothing))
   parts-are true nothing = tt
@@ -251,3 +268,28 @@ module _ (P : Logic → Type 0) where
   pub settings-are : (setting : Setting) → P logic.Nothing → OnOk P (set_analysed setting)
   unfolding set_analysed
   settings-are setting nothing = if-ok P (takes_value setting) (Ok logic.Nothing) refusal.BadType (λ takes. nothing)
+
+-- ---- what a COMPACT can come to, and what it means then
+
+module _ (P : Logic → Type 0) where
+  pub compacts-are : (tables : List TableInfo) (compact : Compact) → ((ask : TypedAsk) → P (logic.Ask ask)) → OnOk P (asked tables compact)
+  unfolding asked
+  compacts-are tables compact each = at (place_of compact.table tables)
+    where
+      told : (info : Option TableInfo) → OnOk P (asked_as compact info)
+      told None = tt
+      told (Some info) = then-ok P (list_typed info.shape.parts compact.partition) _ (λ values e. each (asked_of compact info values))
+
+      at : (place : Option ℕ) → OnOk P (asked_at tables compact place)
+      at None = tt
+      at (Some place) = told (slice_get tables place)
+
+pub asking-is : (P : Option Meaning → Type 0) (ask : TypedAsk)
+    → (nat_le (length (asked_partition ask)) text_limit ≡ true → P (Some (Ask ask.table.table (asked_partition ask) ask.kind)))
+    → P (Some PartitionLimit) → P (Some (asking ask))
+asking-is P ask asks long = by (nat_le (length (asked_partition ask)) text_limit) refl
+  where
+    by : (b : Bool) → nat_le (length (asked_partition ask)) text_limit ≡ b
+        → P (Some (cond b (Ask ask.table.table (asked_partition ask) ask.kind) PartitionLimit))
+    by true is = asks is
+    by false is = long

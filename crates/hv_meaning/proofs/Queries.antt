@@ -25,8 +25,8 @@ use Rattle.hv_ast.specs.declared.query.Source.TheVariants.{rolls-Table, rolls-Qu
 use Rattle.hv_ast.specs.declared.query.Source.TheViews.{roll-Source}
 use Rattle.hv_ast.specs.declared.query.Union.{Union}
 use Rattle.hv_value.specs.declared.sql_type.SqlType.{SqlType}
-use Rattle.hv_expr.specs.declared.tree.TypedExpr.{TypedExpr}
-use Rattle.hv_logic.specs.declared.catalog.TableInfo.{TableInfo}
+use Rattle.hv_typing.specs.hv_expr.specs.declared.tree.TypedExpr.{TypedExpr}
+use Rattle.hv_typing.specs.hv_logic.specs.declared.catalog.TableInfo.{TableInfo}
 use Rattle.hv_typing.specs.declared.tree.OutputColumn.{OutputColumn}
 use Rattle.hv_typing.specs.declared.tree.TypedQuery.{TypedQuery}
 use Rattle.hv_typing.specs.declared.tree.TypedSelect.{TypedSelect}

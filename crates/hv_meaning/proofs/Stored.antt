@@ -18,10 +18,10 @@ use Rattle.hv_value.specs.declared.value.Value.TheVariants.{rolls-Null, rolls-Bo
 use Rattle.hv_value.specs.declared.value.Value.TheViews.{out-Value, roll-Value, roll-out-Value}
 use Rattle.hv_value.specs.Dates.{is_day}
 use Rattle.hv_value.specs.Conversion.{is_layer_of, is_in_range, is_item_in, is_layer_in}
-use Rattle.hv_logic.specs.declared.catalog.Column.{Column}
-use Rattle.hv_logic.specs.declared.catalog.Shape.{Shape}
-use Rattle.hv_logic.specs.Sizes.{stored_size}
-use Rattle.hv_logic.proofs.SizeLemmas.{size-Null, size-Bool, size-Int, size-Big, size-Str, size-Day, size-Array}
+use Rattle.hv_typing.specs.hv_logic.specs.declared.catalog.Column.{Column}
+use Rattle.hv_typing.specs.hv_logic.specs.declared.catalog.Shape.{Shape}
+use Rattle.hv_typing.specs.hv_logic.specs.Sizes.{stored_size}
+use Rattle.hv_typing.specs.hv_logic.proofs.SizeLemmas.{size-Null, size-Bool, size-Int, size-Big, size-Str, size-Day, size-Array}
 use Rattle.hv_route.specs.hv_rowfile.specs.Layout.{element_spelling, value_spelling, ElementIsTaken, ValueIsTaken}
 use Rattle.hv_route.specs.hv_rowfile.proofs.Values.{taken-Null, taken-Bool, taken-Int, taken-Big, taken-Str, taken-Day, taken-Array, length-Null, length-Bool, length-Int, length-Big, length-Str, length-Day, length-Array, flat_spelled, flat_taken}
 use Rattle.hv_route.specs.Back.{SayValues, IsHeld, AreHeld, AreFlat}

@@ -1,8 +1,8 @@
 -- The first row that two source rows match.
 use Rattle.std.proofs.Common.{◌≡◌, ◌≤◌, Bool, true, false, cond, List, [], ◌∷◌, length, Option, Some, None, refl, ap, subst, arith}
 use Rattle.std.specs.List.{AllByRecursion}
-use Rattle.hv_expr.specs.declared.tree.TypedExpr.{TypedExpr}
-use Rattle.hv_logic.specs.declared.effect.Found.{Found}
+use Rattle.hv_typing.specs.hv_expr.specs.declared.tree.TypedExpr.{TypedExpr}
+use Rattle.hv_typing.specs.hv_logic.specs.declared.effect.Found.{Found}
 use Rattle.hv_typing.specs.Joins.{first_two}
 use Rattle.hv_typing.specs.Rows.{Frame}
 use Rattle.hv_meaning.specs.Merging.{its_match, is_twice, first_twice}

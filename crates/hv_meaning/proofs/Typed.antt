@@ -17,17 +17,17 @@ use Rattle.hv_value.specs.declared.sql_type.Elem.{Elem}
 use Rattle.hv_value.specs.declared.sql_type.SqlType.{SqlType}
 use Rattle.hv_value.specs.Conversion.{is_convertible}
 use Rattle.hv_value.specs.Dates.{day_of_text}
-use Rattle.hv_expr.specs.declared.function.Aggregate.{Aggregate}
-use Rattle.hv_expr.specs.declared.function.Many.{Many}
-use Rattle.hv_expr.specs.declared.function.Many.TheVariants as many
-use Rattle.hv_expr.specs.declared.function.One.{One}
-use Rattle.hv_expr.specs.declared.function.Three.{Three}
-use Rattle.hv_expr.specs.declared.function.Three.TheVariants as three
-use Rattle.hv_expr.specs.declared.function.Two.{Two}
-use Rattle.hv_expr.specs.declared.tree.Branch.{Branch}
-use Rattle.hv_expr.specs.declared.tree.Link.{Link}
-use Rattle.hv_expr.specs.declared.tree.TypedExpr.{TypedExpr}
-use Rattle.hv_expr.specs.declared.tree.TypedExpr.TheVariants as tree
+use Rattle.hv_typing.specs.hv_expr.specs.declared.function.Aggregate.{Aggregate}
+use Rattle.hv_typing.specs.hv_expr.specs.declared.function.Many.{Many}
+use Rattle.hv_typing.specs.hv_expr.specs.declared.function.Many.TheVariants as many
+use Rattle.hv_typing.specs.hv_expr.specs.declared.function.One.{One}
+use Rattle.hv_typing.specs.hv_expr.specs.declared.function.Three.{Three}
+use Rattle.hv_typing.specs.hv_expr.specs.declared.function.Three.TheVariants as three
+use Rattle.hv_typing.specs.hv_expr.specs.declared.function.Two.{Two}
+use Rattle.hv_typing.specs.hv_expr.specs.declared.tree.Branch.{Branch}
+use Rattle.hv_typing.specs.hv_expr.specs.declared.tree.Link.{Link}
+use Rattle.hv_typing.specs.hv_expr.specs.declared.tree.TypedExpr.{TypedExpr}
+use Rattle.hv_typing.specs.hv_expr.specs.declared.tree.TypedExpr.TheVariants as tree
 use Rattle.hv_typing.specs.declared.kinds.Meeting.{Meeting}
 use Rattle.hv_typing.specs.declared.kinds.Meeting.TheVariants as meeting
 use Rattle.hv_typing.specs.declared.names.Function.{Function}

@@ -12,15 +12,15 @@ use Rattle.hv_ast.specs.declared.change.Rows.{Rows}
 use Rattle.hv_ast.specs.declared.change.Rows.TheVariants as source_rows
 use Rattle.hv_ast.specs.declared.statement.Stmt.{Stmt}
 use Rattle.hv_ast.specs.declared.statement.Stmt.TheVariants as stmt
-use Rattle.hv_logic.specs.declared.catalog.Shape.{Shape}
-use Rattle.hv_logic.specs.declared.catalog.TableInfo.{TableInfo}
-use Rattle.hv_logic.specs.declared.effect.Effect.{Effect}
-use Rattle.hv_logic.specs.declared.effect.Found.{Found}
-use Rattle.hv_logic.specs.declared.seen.Seen.{Seen}
-use Rattle.hv_logic.specs.Names.{names_in}
-use Rattle.hv_logic.specs.Tables.{named}
+use Rattle.hv_typing.specs.hv_logic.specs.declared.catalog.Shape.{Shape}
+use Rattle.hv_typing.specs.hv_logic.specs.declared.catalog.TableInfo.{TableInfo}
+use Rattle.hv_typing.specs.hv_logic.specs.declared.effect.Effect.{Effect}
+use Rattle.hv_typing.specs.hv_logic.specs.declared.effect.Found.{Found}
+use Rattle.hv_typing.specs.hv_logic.specs.declared.seen.Seen.{Seen}
+use Rattle.hv_typing.specs.hv_logic.specs.Names.{names_in}
+use Rattle.hv_typing.specs.hv_logic.specs.Tables.{named}
 use Rattle.hv_typing.specs.Rows.{Tables}
-use Rattle.hv_expr.specs.declared.tree.TypedExpr.{TypedExpr}
+use Rattle.hv_typing.specs.hv_expr.specs.declared.tree.TypedExpr.{TypedExpr}
 use Rattle.hv_typing.specs.declared.change.Deletes.{Deletes}
 use Rattle.hv_typing.specs.declared.change.Deletes.TheVariants as deletes
 use Rattle.hv_typing.specs.declared.change.Origin.{Origin}
@@ -29,16 +29,17 @@ use Rattle.hv_typing.specs.declared.change.TypedChange.{TypedChange}
 use Rattle.hv_typing.specs.Columns.{columns_of}
 use Rattle.hv_typing.specs.Inserts.{insert_of}
 use Rattle.hv_typing.specs.declared.logic.Logic.{Logic}
-use Rattle.hv_typing.specs.Analysis.{analysed, form_analysed, is_form}
+use Rattle.hv_typing.specs.Analysis.{analysed, form_analysed, explain_analysed, is_form}
 use Rattle.hv_typing.specs.Changes.{changing, change_of}
 use Rattle.hv_typing.specs.Creates.{created}
 use Rattle.hv_typing.specs.Drops.{dropped}
 use Rattle.hv_typing.specs.Descriptions.{described}
 use Rattle.hv_typing.specs.Shows.{show_analysed}
 use Rattle.hv_typing.specs.Settings.{set_analysed}
+use Rattle.hv_typing.specs.Asks.{asked}
 use Rattle.hv_meaning.specs.Meaning.{info_of, found_in, tables_of, named_by, its_tables, matched, frames_from, stored_row, effect_of, change_effect, within_limits, or_none, changed_in, meant, meaning_over, meaning_in}
 use Rattle.hv_meaning.specs.Laws.{are_values, reads_rows, RowsAreUnseen, RowsAreUnseenIn}
-use Rattle.hv_meaning.proofs.Outcomes.{OnOk, on_ok, then-ok, IsGone, IsFrom, IsChangeOf, inserts-are, changes-are, creates-are, drops-are, describes-are, shows-are, settings-are}
+use Rattle.hv_meaning.proofs.Outcomes.{OnOk, on_ok, then-ok, IsGone, IsFrom, IsChangeOf, inserts-are, changes-are, creates-are, drops-are, describes-are, explains-are, shows-are, settings-are, compacts-are}
 
 -- ---- over these descriptions, with one tables' rows and with others
 
@@ -101,8 +102,10 @@ module _ (infos : List TableInfo) (found others : List (List Found)) where
   unseen-form (stmt.DropTable drop) e = same-meant (dropped infos drop) (drops-are Same infos drop refl (λ table. refl))
   unseen-form (stmt.Describe table) e = same-meant (described infos table) (describes-are Same infos table (λ columns. refl))
   unseen-form (stmt.Show what) e = same-meant (show_analysed infos what) (shows-are Same infos what refl)
+  unseen-form (stmt.Compact compact) e = same-meant (asked infos compact) (compacts-are Same infos compact (λ ask. refl))
   unseen-form (stmt.Set setting) e = same-meant (set_analysed setting) (settings-are Same setting refl)
   unseen-form (stmt.AbortTransactions txns) e = refl
+  unseen-form (stmt.Explain query) e = same-meant (explain_analysed infos query) (explains-are Same infos query (λ typed. refl))
   unseen-form other e = cc
 
   unseen-over : (tree : Stmt) → reads_rows tree ≡ false → meaning_over tree infos found ≡ meaning_over tree infos others

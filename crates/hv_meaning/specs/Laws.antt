@@ -5,6 +5,8 @@ use Rattle.hv_base.specs.declared.ids.TableId.{TableId}
 use Rattle.hv_base.specs.declared.ids.Touch.{Touch}
 use Rattle.hv_ast.specs.declared.change.Rows.{Rows}
 use Rattle.hv_ast.specs.declared.change.Rows.TheVariants as rows
+use Rattle.hv_ast.specs.declared.table.Compact.{Compact}
+use Rattle.hv_ast.specs.declared.table.CompactionKind.{CompactionKind}
 use Rattle.hv_ast.specs.declared.table.CreateTable.{CreateTable}
 use Rattle.hv_ast.specs.declared.table.DropTable.{DropTable}
 use Rattle.hv_ast.specs.declared.statement.Stmt.{Stmt}
@@ -13,17 +15,17 @@ use Rattle.hv_value.specs.declared.row.Row.{Row}
 use Rattle.hv_value.specs.declared.sql_type.SqlType.{SqlType}
 use Rattle.hv_value.specs.declared.value.Value.{Value}
 use Rattle.hv_value.specs.Conversion.{is_of}
-use Rattle.hv_logic.specs.declared.catalog.Column.{Column}
-use Rattle.hv_logic.specs.declared.catalog.Shape.{Shape}
-use Rattle.hv_logic.specs.declared.catalog.TableInfo.{TableInfo}
-use Rattle.hv_logic.specs.declared.effect.Effect.{Effect}
-use Rattle.hv_logic.specs.declared.effect.Found.{Found}
-use Rattle.hv_logic.specs.declared.meaning.Meaning.{Meaning}
-use Rattle.hv_logic.specs.declared.meaning.Meaning.TheVariants.{Change, Make, Unmake}
-use Rattle.hv_logic.specs.declared.seen.Seen.{Seen}
-use Rattle.hv_logic.specs.Tables.{named}
-use Rattle.hv_logic.specs.Shapes.{shape_of}
-use Rattle.hv_logic.specs.Sizes.{stored_size}
+use Rattle.hv_typing.specs.hv_logic.specs.declared.catalog.Column.{Column}
+use Rattle.hv_typing.specs.hv_logic.specs.declared.catalog.Shape.{Shape}
+use Rattle.hv_typing.specs.hv_logic.specs.declared.catalog.TableInfo.{TableInfo}
+use Rattle.hv_typing.specs.hv_logic.specs.declared.effect.Effect.{Effect}
+use Rattle.hv_typing.specs.hv_logic.specs.declared.effect.Found.{Found}
+use Rattle.hv_typing.specs.hv_logic.specs.declared.meaning.Meaning.{Meaning}
+use Rattle.hv_typing.specs.hv_logic.specs.declared.meaning.Meaning.TheVariants.{Change, Make, Unmake, Ask}
+use Rattle.hv_typing.specs.hv_logic.specs.declared.seen.Seen.{Seen}
+use Rattle.hv_typing.specs.hv_logic.specs.Tables.{named}
+use Rattle.hv_typing.specs.hv_logic.specs.Shapes.{shape_of}
+use Rattle.hv_typing.specs.hv_logic.specs.Sizes.{stored_size}
 use Rattle.hv_route.specs.hv_rowfile.specs.Layout.{value_spelling, ValueIsTaken, RowIsTaken}
 use Rattle.hv_route.specs.Back.{SayValues, AreFlat, AreHeld}
 use Rattle.hv_route.specs.Routes.{stored}
@@ -74,6 +76,22 @@ pub record DropsNamed (tree : Stmt) (tables : List Seen) (table : TableId) : Typ
 abbrev pub DropsAreNamed : Type 0
 DropsAreNamed =
     (tree : Stmt) (tables : List Seen) (table : TableId) → meaning_of tables tree ≡ Some (Unmake table) → DropsNamed tree tables table
+
+-- ---- a compaction is asked for by a COMPACT of its kind, of the table of its name; the partition's text is short
+
+pub record AsksNamed (tree : Stmt) (tables : List Seen) (table : TableId) (partition : List ℕ) (kind : CompactionKind) : Type 0 where
+  pub said : Compact
+  pub tree_is : tree ≡ stmt.Compact said
+  pub seen : Seen
+  pub here : named said.table tables ≡ Some seen
+  pub table_is : table ≡ seen.info.table
+  pub kind_is : kind ≡ said.kind
+  pub short : length partition ≤ 240
+
+abbrev pub AsksAreNamed : Type 0
+AsksAreNamed =
+    (tree : Stmt) (tables : List Seen) (table : TableId) (partition : List ℕ) (kind : CompactionKind)
+    → meaning_of tables tree ≡ Some (Ask table partition kind) → AsksNamed tree tables table partition kind
 
 -- ---- a change is of the table that the statement names, and deletes rows that stand in it
 
@@ -183,8 +201,10 @@ reads_rows (stmt.CreateTable create) = false
 reads_rows (stmt.DropTable dropping) = false
 reads_rows (stmt.Show show) = false
 reads_rows (stmt.Describe table) = false
+reads_rows (stmt.Compact compact) = false
 reads_rows (stmt.Set setting) = false
 reads_rows (stmt.AbortTransactions txns) = false
+reads_rows (stmt.Explain query) = false
 reads_rows _ = true
 
 -- over the tables that it names

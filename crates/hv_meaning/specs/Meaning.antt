@@ -1,7 +1,8 @@
--- What a statement comes to over the tables that it names. Source: Hive Language Manual, DDL (Create Table, Drop Table, Describe), DML
+-- What a statement comes to over the tables that it names. Source: Hive Language Manual, DDL (Create Table, Drop Table, Describe, Alter
+-- Table/Partition Compact), DML
 -- (Inserting values into tables from SQL, Inserting data into
--- Hive Tables from queries, Update, Delete, Merge), Select.
-use Rattle.std.specs.Prelude.{ℕ, Bool, Option, Some, None, List, [], ◌∷◌, length, map, filter, drop, slice_get, Result, Ok, Err}
+-- Hive Tables from queries, Update, Delete, Merge), Select, Explain.
+use Rattle.std.specs.Prelude.{if◌then◌else◌, ℕ, nat_le, Bool, Option, Some, None, List, [], ◌∷◌, length, map, filter, drop, slice_get, Result, Ok, Err}
 use Rattle.std.specs.List.{flat_map, list_any}
 use Rattle.std.specs.Option.{option_to_list}
 use Rattle.std.specs.Ordering.{is_eq}
@@ -16,28 +17,30 @@ use Rattle.hv_value.specs.declared.value.Value.TheVariants as value
 use Rattle.hv_value.specs.declared.row.Row.{Row}
 use Rattle.hv_value.specs.Conversion.{converted}
 use Rattle.hv_value.specs.Order.{value_cmp}
-use Rattle.hv_expr.specs.declared.tree.TypedExpr.{TypedExpr}
-use Rattle.hv_expr.specs.Evaluation.{value_of, values_of}
-use Rattle.hv_logic.specs.declared.catalog.Column.{Column}
-use Rattle.hv_logic.specs.declared.catalog.Shape.{Shape}
-use Rattle.hv_logic.specs.declared.catalog.TableInfo.{TableInfo}
-use Rattle.hv_logic.specs.declared.effect.Effect.{Effect}
-use Rattle.hv_logic.specs.declared.effect.Found.{Found}
-use Rattle.hv_logic.specs.declared.meaning.Meaning.{Meaning}
-use Rattle.hv_logic.specs.declared.meaning.Meaning.TheVariants.{Refused, Listing, Change, Make, Unmake, Plain, Twice, RowLimit, PartitionLimit}
-use Rattle.hv_logic.specs.declared.seen.Seen.{Seen}
-use Rattle.hv_logic.specs.Tables.{named}
-use Rattle.hv_logic.specs.Names.{names_in}
-use Rattle.hv_logic.specs.Rows.{rows_in}
+use Rattle.hv_typing.specs.hv_expr.specs.declared.tree.TypedExpr.{TypedExpr}
+use Rattle.hv_typing.specs.hv_expr.specs.Evaluation.{value_of, values_of}
+use Rattle.hv_typing.specs.hv_logic.specs.declared.catalog.Column.{Column}
+use Rattle.hv_typing.specs.hv_logic.specs.declared.catalog.Shape.{Shape}
+use Rattle.hv_typing.specs.hv_logic.specs.declared.catalog.TableInfo.{TableInfo}
+use Rattle.hv_typing.specs.hv_logic.specs.declared.effect.Effect.{Effect}
+use Rattle.hv_typing.specs.hv_logic.specs.declared.effect.Found.{Found}
+use Rattle.hv_typing.specs.hv_logic.specs.declared.meaning.Meaning.{Meaning}
+use Rattle.hv_typing.specs.hv_logic.specs.declared.meaning.Meaning.TheVariants.{Refused, Listing, Change, Make, Unmake, Ask, Plain, Twice, RowLimit, PartitionLimit}
+use Rattle.hv_typing.specs.hv_logic.specs.declared.seen.Seen.{Seen}
+use Rattle.hv_typing.specs.hv_logic.specs.Tables.{named}
+use Rattle.hv_typing.specs.hv_logic.specs.Names.{names_in}
+use Rattle.hv_typing.specs.hv_logic.specs.Rows.{rows_in}
 use Rattle.hv_route.specs.declared.fault.RouteFault.{RouteFault}
 use Rattle.hv_route.specs.declared.fault.RouteFault.TheVariants as route_fault
-use Rattle.hv_route.specs.Touching.{touched}
+use Rattle.hv_route.specs.Partitions.{partition_text}
+use Rattle.hv_route.specs.Touching.{touched, text_limit}
 use Rattle.hv_typing.specs.declared.tree.OutputColumn.{OutputColumn}
 use Rattle.hv_typing.specs.declared.tree.TypedQuery.{TypedQuery}
 use Rattle.hv_typing.specs.declared.tree.TypedSource.{TypedSource}
 use Rattle.hv_typing.specs.Rows.{Frame, Tables, is_met, rows_of, source_frames}
 use Rattle.hv_typing.specs.declared.merge.TypedMerge.{TypedMerge}
 use Rattle.hv_meaning.specs.Merging.{twice_found, merge_effect}
+use Rattle.hv_typing.specs.declared.asks.TypedAsk.{TypedAsk}
 use Rattle.hv_typing.specs.declared.change.Deletes.{Deletes}
 use Rattle.hv_typing.specs.declared.change.Deletes.TheVariants as deletes
 use Rattle.hv_typing.specs.declared.change.Origin.{Origin}
@@ -47,6 +50,8 @@ use Rattle.hv_typing.specs.Columns.{columns_of}
 use Rattle.hv_typing.specs.declared.logic.Logic.{Logic}
 use Rattle.hv_typing.specs.declared.logic.Logic.TheVariants as logic
 use Rattle.hv_typing.specs.Analysis.{analysed}
+use Rattle.hv_typing.specs.Stages.{stages_of}
+use Rattle.hv_typing.specs.StageLine.{stages_line}
 use Rattle.hv_meaning.specs.Describing.{described}
 
 -- ---- the live tables that a statement names, in the order in which it names them: a name means one of these
@@ -74,6 +79,11 @@ column_name column = column.name
 
 abbrev pub listed : TypedQuery TypedSource → Tables → Meaning
 listed query rows = Listing (map column_name query.columns) (rows_of query rows)
+
+-- ---- EXPLAIN FORMATTED: no rows below the line of the query's stages, which stands where the names of columns do
+
+abbrev pub explained : TypedQuery TypedSource → Meaning
+explained query = Listing (stages_line (stages_of query) ∷ []) []
 
 -- ---- the rows that a change deletes: those for which a condition is true, in their order
 
@@ -167,6 +177,17 @@ abbrev pub merged_in : Option TableInfo → Option (List Found) → Tables → T
 merged_in None found tables merge = None
 merged_in (Some info) found tables merge = Some (merge_of info (or_none found) (source_frames merge.source tables) merge)
 
+-- ---- a compaction that is asked for: of the partition whose text these values give, which is as long as that of a change may be
+
+abbrev pub asked_partition : TypedAsk → List ℕ
+asked_partition ask = partition_text ask.table.shape.parts (stored_row ask.table.shape.parts ask.values []).values
+
+abbrev pub unless_long : TypedAsk → List ℕ → Meaning
+unless_long ask text = if nat_le (length text) text_limit then Ask ask.table.table text ask.kind else PartitionLimit
+
+abbrev pub asking : TypedAsk → Meaning
+asking ask = unless_long ask (asked_partition ask)
+
 -- ---- a form that isn't built has no meaning
 
 abbrev pub refused_for : Refusal → Option Meaning
@@ -183,6 +204,8 @@ meant infos found (Ok (logic.Make shape)) = Some (Make shape)
 meant infos found (Ok (logic.Unmake table)) = Some (Unmake table)
 meant infos found (Ok logic.Nothing) = Some Plain
 meant infos found (Ok (logic.Describe columns)) = Some (described columns)
+meant infos found (Ok (logic.Explain query)) = Some (explained query)
+meant infos found (Ok (logic.Ask ask)) = Some (asking ask)
 meant infos found (Err why) = refused_for why
 
 -- over tables of these descriptions, where these rows stand

@@ -1,8 +1,8 @@
 -- What is proved of the row that a MERGE is refused for.
 use Rattle.std.specs.Prelude.{◌≡◌, ◌≤◌, Option, Some, None, List, ◌∷◌, ◌++◌, length, filter}
 use Rattle.std.specs.List.{AllByRecursion}
-use Rattle.hv_expr.specs.declared.tree.TypedExpr.{TypedExpr}
-use Rattle.hv_logic.specs.declared.effect.Found.{Found}
+use Rattle.hv_typing.specs.hv_expr.specs.declared.tree.TypedExpr.{TypedExpr}
+use Rattle.hv_typing.specs.hv_logic.specs.declared.effect.Found.{Found}
 use Rattle.hv_typing.specs.Rows.{Frame}
 use Rattle.hv_meaning.specs.Merging.{target_frame, matches_on, first_twice}
 

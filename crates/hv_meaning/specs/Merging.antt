@@ -5,9 +5,9 @@
 use Rattle.std.specs.Prelude.{Bool, false, if◌then◌else◌, is_some, List, [], ◌∷◌, ◌++◌, map, filter, Option, Some, None}
 use Rattle.std.specs.List.{flat_map}
 use Rattle.hv_value.specs.declared.row.Row.{Row}
-use Rattle.hv_expr.specs.declared.tree.TypedExpr.{TypedExpr}
-use Rattle.hv_logic.specs.declared.effect.Effect.{Effect}
-use Rattle.hv_logic.specs.declared.effect.Found.{Found}
+use Rattle.hv_typing.specs.hv_expr.specs.declared.tree.TypedExpr.{TypedExpr}
+use Rattle.hv_typing.specs.hv_logic.specs.declared.effect.Effect.{Effect}
+use Rattle.hv_typing.specs.hv_logic.specs.declared.effect.Found.{Found}
 use Rattle.hv_typing.specs.declared.merge.MatchedAction.{MatchedAction}
 use Rattle.hv_typing.specs.declared.merge.MatchedAction.TheVariants as action
 use Rattle.hv_typing.specs.declared.merge.TypedMatched.{TypedMatched}

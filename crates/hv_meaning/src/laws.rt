@@ -1,5 +1,6 @@
 ghost use Rattle.hv_meaning.specs.MergeLaws.{FirstIsNamed, NoneMatchTwice};
-ghost use Rattle.hv_meaning.specs.Laws.{FormsMean, OtherFormsMeanNothing, TablesAreNew, DropsAreNamed, ChangesAreNamed, ChangesAreSeen, InsertsDeleteNothing, TypedValuesAreStored, RowsAreUnseen, RowsAreUnseenIn};
+ghost use Rattle.hv_meaning.specs.Needs.{NarrowRowsAreEnough};
+ghost use Rattle.hv_meaning.specs.Laws.{FormsMean, OtherFormsMeanNothing, TablesAreNew, DropsAreNamed, AsksAreNamed, ChangesAreNamed, ChangesAreSeen, InsertsDeleteNothing, TypedValuesAreStored, RowsAreUnseen, RowsAreUnseenIn};
 
 /// The statements of the forms that are analysed mean something, whatever the tables.
 pub fn forms_mean()
@@ -15,6 +16,11 @@ pub fn made_tables_are_new()
 /// Only a DROP TABLE drops a table: the live one of its name.
 pub fn dropped_tables_are_named()
     ensures law { DropsAreNamed }
+{}
+
+/// Only a COMPACT asks for a compaction: of its kind, of the live table of its name. The partition's text is at most 240 bytes.
+pub fn asks_are_named()
+    ensures law { AsksAreNamed }
 {}
 
 /// A change is of the table that the statement names, and deletes rows that stand in it, each once and in
@@ -44,6 +50,11 @@ pub fn typed_values_are_stored()
 pub fn rows_are_unseen()
     ensures named { RowsAreUnseenIn }
     ensures live { RowsAreUnseen }
+{}
+
+/// A statement comes to the same without the rows of partitions that it doesn't need.
+pub fn narrow_rows_are_enough()
+    ensures law { NarrowRowsAreEnough }
 {}
 
 /// The row that a MERGE names as matched by two source rows is one, and each row before it is matched by one at most; where none is

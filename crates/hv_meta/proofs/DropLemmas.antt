@@ -11,6 +11,7 @@ use Rattle.hv_book.specs.hv_history.specs.State.{State, numbered, opening_tree}
 use Rattle.hv_book.specs.hv_history.specs.Legal.{Of, IsRunning, DropFits, is_drop, dropped_name, is_named_there}
 use Rattle.hv_book.specs.Briefs.{brief_table, tree_in}
 use Rattle.hv_book.specs.Names.{name_in}
+use Rattle.hv_book.specs.Said.{said}
 use Rattle.hv_meta.specs.States.{is_live_note, drops_table}
 use Rattle.hv_meta.proofs.FactLemmas.{and-left, and-right, and-both}
 
@@ -36,12 +37,20 @@ drops-text tables table None e named = cc
 drops-text tables table (Some (stmt.DropTable drop)) e named = named
 drops-text tables table (Some other) e named = cc
 
+-- what is kept of a text drops the same
+drops-said : (tables : List Table) (table : ℕ) (tree : Option Stmt) → drops_table tables table (option_map said tree) ≡ drops_table tables table tree
+drops-said tables table None = refl
+drops-said tables table (Some (stmt.Insert insert)) = refl
+drops-said tables table (Some other) = refl
+
 module _ (state : State) (table : ℕ) where
   drop-in : (o : Option Transaction) (tree : Option Stmt) → tree ≡ tree_in o → (r d : Bool) → (IsTrue r ↔ IsSomeAnd o IsRunning)
       → d ≡ drops_table state.tables table tree → (IsTrue (r && d)) ↔ IsSomeAnd o (DropFits state table)
   drop-in None tree is r d running drops = (λ e. running.0 (and-left r d e), λ h. absurd h)
   drop-in (Some t) tree is r d running drops =
-      let same : d ≡ drops_table state.tables table (opening_tree t) = drops ∙ ap (drops_table state.tables table) is in (
+      let same : d ≡ drops_table state.tables table (opening_tree t) =
+      drops ∙ ap (drops_table state.tables table) is ∙ drops-said state.tables table (opening_tree t)
+      in (
         λ e.
             let text = text-drops state.tables table (opening_tree t) (sym same ∙ and-right r d e) in
             record { running = running.0 (and-left r d e); drop = text.0; named = text.1 },

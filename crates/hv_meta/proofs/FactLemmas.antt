@@ -1,6 +1,7 @@
 -- What a note says is what the transaction says.
 use Rattle.std.proofs.Common.{◌≡◌, ℕ, suc, ◌+◌, zero, Option, Some, None, List, [], ◌∷◌, ◌++◌, drop, length, map, refl, sym, ap, ◌∙◌, subst, arith}
 use Rattle.std.specs.Prelude.{Bool, true, false, not, ◌&&◌, ◌↔◌, IsTrue, IsFalse, IsSomeAnd, ◌==◌}
+use Rattle.std.specs.Option.{option_map}
 use Rattle.std.specs.List.{slice_get, list_all, list_any}
 use Rattle.hv_ast.specs.declared.statement.Stmt.{Stmt}
 use Rattle.hv_ast.specs.declared.statement.Stmt.TheVariants as stmt
@@ -8,14 +9,17 @@ use Rattle.hv_ast.specs.declared.table.ColumnDefinition.{ColumnDefinition}
 use Rattle.hv_ast.specs.declared.types.TypeName.{TypeName}
 use Rattle.hv_ast.specs.declared.types.TypeName.TheVariants as type_name
 use Rattle.hv_ast.specs.declared.types.ScalarName.TheVariants as scalar
-use Rattle.hv_logic.specs.Shapes.{type_of, column_of}
-use Rattle.hv_route.specs.Back.{is_flat, AreFlat}
+use Rattle.hv_book.specs.hv_history.specs.hv_meaning.specs.hv_typing.specs.hv_logic.specs.Shapes.{type_of, column_of}
+use Rattle.hv_book.specs.hv_history.specs.hv_meaning.specs.hv_typing.specs.hv_logic.specs.declared.catalog.Shape.{Shape}
+use Rattle.hv_book.specs.hv_history.specs.hv_meaning.specs.hv_route.specs.Back.{is_flat, AreFlat}
 use Rattle.std.proofs.lemmas.Bool.{eq-eqb, eqb-true}
 use Rattle.hv_book.specs.hv_history.specs.declared.state.Transaction.{Transaction}
 use Rattle.hv_book.specs.hv_history.specs.declared.state.Table.{Table}
-use Rattle.hv_book.specs.hv_history.specs.State.{State, numbered, created_shape}
+use Rattle.hv_book.specs.hv_history.specs.State.{State, numbered, opening_tree, created_shape}
 use Rattle.hv_book.specs.hv_history.specs.Legal.{IsRunning, CreateFits, is_named, is_create, made_name}
 use Rattle.hv_book.specs.Briefs.{brief_table, tree_in}
+use Rattle.hv_book.specs.Said.{said}
+use Rattle.hv_book.proofs.SaidLaws.{created-said}
 use Rattle.hv_meta.specs.States.{is_flat_name, is_flat_definition, made_parts}
 use Rattle.hv_meta.specs.Catalogs.{live_infos, info_in}
 use Rattle.hv_book.specs.declared.notes.TableNote.{TableNote}
@@ -94,6 +98,17 @@ flat-parts tree e = subst AreFlat (sym (made-columns tree)) (flat-columns (made_
 parts-flat : (tree : Option Stmt) → AreFlat (created_shape tree).parts → list_all is_flat_definition (made_parts tree) ≡ true
 parts-flat tree h = columns-flat (made_parts tree) (subst AreFlat (made-columns tree) h)
 
+-- what is kept of a text makes the same table
+create-said : (tree : Option Stmt) → is_create (option_map said tree) ≡ is_create tree
+create-said None = refl
+create-said (Some (stmt.Insert insert)) = refl
+create-said (Some tree) = refl
+
+name-said : (tree : Option Stmt) → made_name (option_map said tree) ≡ made_name tree
+name-said None = refl
+name-said (Some (stmt.Insert insert)) = refl
+name-said (Some tree) = refl
+
 module _ (state : State) (table : ℕ) where
   pub create-law : (o : Option Transaction) (tree : Option Stmt) → tree ≡ tree_in o → is_create tree ≡ true → (f r h n : Bool)
       → f ≡ list_all is_flat_definition (made_parts tree) → f ≡ true
@@ -105,13 +120,20 @@ module _ (state : State) (table : ℕ) where
         let rest = and-right r (not h && n) e in
         record {
           running = running.0 (and-left r (not h && n) e);
-          create = ap is_create (sym is) ∙ made;
-          flat = subst (λ (o : Option Stmt). AreFlat (created_shape o).parts) is (flat-parts tree (sym flat ∙ are));
-          absent = ap (λ o. list_any (is_named (made_name o)) state.tables) (sym is) ∙ sym named ∙ (false-is h).0 (and-left (not h) n rest);
+          create = sym (create-said (opening_tree t)) ∙ ap is_create (sym is) ∙ made;
+          flat =
+              subst (λ (shape : Shape). AreFlat shape.parts) (created-said (opening_tree t))
+              (subst (λ (o : Option Stmt). AreFlat (created_shape o).parts) is (flat-parts tree (sym flat ∙ are)));
+          absent =
+              ap (λ name. list_any (is_named name) state.tables) (sym (name-said (opening_tree t)))
+              ∙ ap (λ o. list_any (is_named (made_name o)) state.tables) (sym is) ∙ sym named ∙ (false-is h).0 (and-left (not h) n rest);
           next = next.0 (and-right (not h) n rest);
         },
     λ fits.
-        let free : h ≡ false = named ∙ ap (λ o. list_any (is_named (made_name o)) state.tables) is ∙ fits.absent in
+        let free : h ≡ false =
+        named ∙ ap (λ o. list_any (is_named (made_name o)) state.tables) is
+        ∙ ap (λ name. list_any (is_named name) state.tables) (name-said (opening_tree t)) ∙ fits.absent
+        in
         and-both r (not h && n) (running.1 fits.running) (and-both (not h) n ((false-is h).1 free) (next.1 fits.next)),
   )
 
@@ -136,6 +158,9 @@ module _ (state : State) (table : ℕ) where
   unflat (Some t) tree is f flat arrays = (
     λ e. cc,
     λ fits.
-        let parts : AreFlat (created_shape tree).parts = subst (λ (o : Option Stmt). AreFlat (created_shape o).parts) (sym is) fits.flat in
+        let whole : AreFlat (created_shape (tree_in (Some t))).parts =
+        subst (λ (shape : Shape). AreFlat shape.parts) (sym (created-said (opening_tree t))) fits.flat
+        in
+        let parts : AreFlat (created_shape tree).parts = subst (λ (o : Option Stmt). AreFlat (created_shape o).parts) (sym is) whole in
         let both : true ≡ false = sym (parts-flat tree parts) ∙ sym flat ∙ arrays in cc,
   )

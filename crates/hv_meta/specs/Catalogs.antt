@@ -1,7 +1,7 @@
 -- The catalog of a state: its live tables, by number. Source: the Hive manual, DDL (Create Table, Drop Table).
 use Rattle.std.specs.Prelude.{Bool, true, false, Option, Some, None, List, [], ◌∷◌}
 use Rattle.std.specs.List.{flat_map}
-use Rattle.hv_logic.specs.declared.catalog.TableInfo.{TableInfo}
+use Rattle.hv_book.specs.hv_history.specs.hv_meaning.specs.hv_typing.specs.hv_logic.specs.declared.catalog.TableInfo.{TableInfo}
 use Rattle.hv_book.specs.hv_history.specs.declared.state.Table.{Table}
 
 abbrev pub info_if : Bool → TableInfo → List TableInfo

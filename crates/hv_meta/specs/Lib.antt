@@ -1,3 +1,4 @@
+pub use Rattle.hv_book as hv_book
 pub mod States
 pub mod Catalogs
 pub mod Committing

@@ -4,7 +4,7 @@ ghost use Rattle.hv_book.specs.hv_history.specs.State.{created_shape};
 
 use hv_ast::Stmt;
 use hv_base::{List, NoMemory, Text};
-use hv_logic::{Shape, shape_of};
+use hv_book::hv_history::hv_meaning::hv_typing::hv_logic::{Shape, shape_of};
 use std::alloc::Global;
 
 /// The shape of the table that this text makes: one without a name and columns where it makes none.

@@ -1,6 +1,8 @@
 //! Facts computed from a book.
 #![tactic(auto)]
 
+pub use hv_book;
+
 mod catalogs;
 mod committing;
 mod creating;

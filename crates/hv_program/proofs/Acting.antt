@@ -19,17 +19,17 @@ use Rattle.hv_script.specs.declared.actions.Statement.{Statement}
 use Rattle.hv_stands.specs.Running.{Asking, next_number, opening, starting, IsOf, AreOf}
 use Rattle.hv_stands.specs.Statements.{AllFitting}
 use Rattle.hv_stands.proofs.Numbers.{numbered-within}
-use Rattle.hv_session.specs.hv_steps.specs.hv_table_reader.specs.hv_acts.specs.hv_telling.specs.hv_house.specs.declared.fault.HouseFault.{HouseFault}
-use Rattle.hv_session.specs.hv_steps.specs.hv_table_reader.specs.hv_acts.specs.hv_telling.specs.hv_house.specs.declared.fault.HouseFault.TheVariants as fault
-use Rattle.hv_session.specs.hv_steps.specs.hv_table_reader.specs.hv_acts.specs.hv_telling.specs.hv_house.specs.declared.house.House.{House}
-use Rattle.hv_session.specs.hv_steps.specs.hv_table_reader.specs.hv_acts.specs.hv_telling.specs.hv_house.specs.House.{entries_of, BeginFits, beginning_of, Leaves}
-use Rattle.hv_session.specs.hv_steps.specs.hv_table_reader.specs.hv_acts.specs.hv_telling.specs.Telling.{IsWhole, IsToldHouse, StillOpens}
-use Rattle.hv_session.specs.hv_steps.specs.hv_table_reader.specs.hv_acts.specs.hv_telling.proofs.Told.{told-stays}
-use Rattle.hv_session.specs.hv_steps.specs.hv_table_reader.specs.hv_acts.specs.hv_telling.proofs.Opens.{whole-opens}
-use Rattle.hv_session.specs.hv_steps.specs.Ending.{AddsOf, HasStopped, KeepsCount, IsUndamaged, IsAskBy, AddsNoneOrId, HasReplied}
-use Rattle.hv_session.specs.hv_steps.specs.hv_table_reader.specs.hv_acts.specs.Answers.{OpensNone}
-use Rattle.hv_session.specs.hv_steps.specs.hv_table_reader.specs.hv_acts.specs.Meant.{IsNoEnd}
-use Rattle.hv_session.specs.hv_steps.specs.declared.ready.Reply.{Reply}
+use Rattle.hv_session.specs.hv_beginning.specs.hv_steps.specs.hv_table_reader.specs.hv_acts.specs.hv_telling.specs.hv_house.specs.declared.fault.HouseFault.{HouseFault}
+use Rattle.hv_session.specs.hv_beginning.specs.hv_steps.specs.hv_table_reader.specs.hv_acts.specs.hv_telling.specs.hv_house.specs.declared.fault.HouseFault.TheVariants as fault
+use Rattle.hv_session.specs.hv_beginning.specs.hv_steps.specs.hv_table_reader.specs.hv_acts.specs.hv_telling.specs.hv_house.specs.declared.house.House.{House}
+use Rattle.hv_session.specs.hv_beginning.specs.hv_steps.specs.hv_table_reader.specs.hv_acts.specs.hv_telling.specs.hv_house.specs.House.{entries_of, BeginFits, beginning_of, Leaves}
+use Rattle.hv_session.specs.hv_beginning.specs.hv_steps.specs.hv_table_reader.specs.hv_acts.specs.hv_telling.specs.Telling.{IsWhole, IsToldHouse, StillOpens}
+use Rattle.hv_session.specs.hv_beginning.specs.hv_steps.specs.hv_table_reader.specs.hv_acts.specs.hv_telling.proofs.Told.{told-stays}
+use Rattle.hv_session.specs.hv_beginning.specs.hv_steps.specs.hv_table_reader.specs.hv_acts.specs.hv_telling.proofs.Opens.{whole-opens}
+use Rattle.hv_session.specs.hv_beginning.specs.hv_steps.specs.Ending.{AddsOf, HasStopped, KeepsCount, IsUndamaged, IsAskBy, AddsNoneOrOne, HasReplied}
+use Rattle.hv_session.specs.hv_beginning.specs.hv_steps.specs.hv_table_reader.specs.hv_acts.specs.Answers.{OpensNone}
+use Rattle.hv_session.specs.hv_beginning.specs.hv_steps.specs.hv_table_reader.specs.hv_acts.specs.Meant.{IsNoEnd}
+use Rattle.hv_session.specs.hv_beginning.specs.hv_steps.specs.declared.ready.Reply.{Reply}
 use Rattle.hv_session.specs.declared.paused.Paused.{Paused}
 use Rattle.hv_session.specs.declared.paused.Taken.{Taken}
 use Rattle.hv_session.specs.declared.paused.Taken.TheVariants as taken
@@ -241,9 +241,10 @@ asks-quiet txn (event ∷ asks) all =
       undamaged = (subst IsUndamaged (sym all.0.event_is) tt, rest.undamaged);
     }
 
-id-quiet : (txn : ℕ) (ids : List Entry) → AddsNoneOrId txn ids → IsQuiet txn ids
+id-quiet : (txn : ℕ) (ids : List Entry) → AddsNoneOrOne txn ids → IsQuiet txn ids
 id-quiet txn ids (inl none) = subst (IsQuiet txn) (sym none) (record { of_it = tt; undamaged = tt })
-id-quiet txn ids (inr id) = subst (IsQuiet txn) (sym id.2) (record { of_it = (refl, tt); undamaged = (tt, tt) })
+id-quiet txn ids (inr (inl id)) = subst (IsQuiet txn) (sym id.2) (record { of_it = (refl, tt); undamaged = (tt, tt) })
+id-quiet txn ids (inr (inr job)) = subst (IsQuiet txn) (sym job.4) (record { of_it = (refl, tt); undamaged = (tt, tt) })
 
 quiet-ready : (txn : ℕ) (added : List Entry) → HasReadied txn added → IsQuiet txn added
 quiet-ready txn added h =
@@ -373,13 +374,14 @@ no-ends None = tt
 no-ends (Some txn) = tt
 
 -- before anything was done
-pub stops-before : (told : Option Store) (before : Standing) (act : Action) → Holds told before.book → Stops fault.NoMemory told before act before.book
+pub stops-before : {Told : Type 0} (told : Option Store) (before : Standing) (act : Action) → Holds told before.book → Stops Told fault.NoMemory told before act before.book
 stops-before told before act holds = record {
   halfway = record {
     added = [];
     book = sym (append-nil before.book);
     of_it = none-of (number_of before act);
-    legal = record { fit = tt; truthful = tt };
+    fits = tt;
+    legal = λ is. record { fit = tt; truthful = tt };
     unended = no-ends (number_of before act);
     opens = opens-none act;
   };
@@ -404,12 +406,13 @@ all-opened act (event ∷ events) none = (none-opened act event none.0, all-open
 -- in a statement
 pub stops-in : {D : Type 0} (told : D → Option Store) (txn : ℕ) (why : HouseFault) (before now : House D) (waiting : List Waiting) (act : Action)
     → number_of (record { book = entries_of before; waiting = waiting }) act ≡ Some txn → (h : HasStopped told txn why before now) → OpensOf act h.added
-    → Stops why (told now.shelf) (record { book = entries_of before; waiting = waiting }) act (entries_of now)
+    → Stops (IsToldHouse told before) why (told now.shelf) (record { book = entries_of before; waiting = waiting }) act (entries_of now)
 stops-in told txn why before now waiting act is h opens = record {
   halfway = record {
     added = h.added;
     book = h.book;
     of_it = some-of _ txn h.added is h.of_it;
+    fits = h.fits;
     legal = h.legal;
     unended = some-ends _ txn h.added is h.unended;
     opens = opens;
@@ -427,15 +430,16 @@ stops-in told txn why before now waiting act is h opens = record {
 }
 
 -- or where it was to begin
-begins-none : (why : HouseFault) (told : Option Store) (statement : Statement) (standing : Standing) (now : List Entry) → now ≡ standing.book
+begins-none : {Told : Type 0} (why : HouseFault) (told : Option Store) (statement : Statement) (standing : Standing) (now : List Entry) → now ≡ standing.book
     → BeginFits standing.book (asking_of statement) → Leaves why (beginning_of standing.book (asking_of statement)) told now
-    → Stops why told standing (action.Run statement) now
+    → Stops Told why told standing (action.Run statement) now
 begins-none why told statement standing now same fits leaves = record {
   halfway = record {
     added = [];
     book = same ∙ sym (append-nil standing.book);
     of_it = tt;
-    legal = record { fit = tt; truthful = tt };
+    fits = tt;
+    legal = λ is. record { fit = tt; truthful = tt };
     unended = tt;
     opens = tt;
   };
@@ -443,15 +447,16 @@ begins-none why told statement standing now same fits leaves = record {
 }
 
 -- or where it was to be opened alone
-opening-none : (why : HouseFault) (told : Option Store) (statement : Statement) (book : List Entry) (waiting : List Waiting) (now : List Entry) → now ≡ book
+opening-none : {Told : Type 0} (why : HouseFault) (told : Option Store) (statement : Statement) (book : List Entry) (waiting : List Waiting) (now : List Entry) → now ≡ book
     → Fits profile (state_of book) (opening book (asking_of statement)) → Leaves why (opening book (asking_of statement) ∷ []) told now
-    → Stops why told (record { book = book; waiting = waiting }) (action.Run statement) now
+    → Stops Told why told (record { book = book; waiting = waiting }) (action.Run statement) now
 opening-none why told statement book waiting now same fits leaves = record {
   halfway = record {
     added = [];
     book = same ∙ sym (append-nil book);
     of_it = tt;
-    legal = record { fit = tt; truthful = tt };
+    fits = tt;
+    legal = λ is. record { fit = tt; truthful = tt };
     unended = tt;
     opens = tt;
   };
@@ -469,7 +474,7 @@ opening-none why told statement book waiting now same fits leaves = record {
 
 pub stops-taken : {D T : Type 0} (told : D → Option Store) (before now : House D) (waiting : List Waiting) (statement : Statement) (result : Result T HouseFault)
     → IfErr result (λ why. StopsTaken told (asking_of statement) why before now)
-    → IfErr result (λ why. Stops why (told now.shelf) (record { book = entries_of before; waiting = waiting }) (action.Run statement) (entries_of now))
+    → IfErr result (λ why. Stops (IsToldHouse told before) why (told now.shelf) (record { book = entries_of before; waiting = waiting }) (action.Run statement) (entries_of now))
 stops-taken told before now waiting statement (Ok x) stops = tt
 stops-taken told before now waiting statement (Err why) (inl stopped) = stops-in told (next_number (entries_of before)) why before now waiting (action.Run statement) refl stopped.0 stopped.1
 stops-taken told before now waiting statement (Err why) (inr (inr opens)) =
@@ -480,10 +485,10 @@ stops-taken told before now waiting statement (Err why) (inr (inl begins)) =
 -- what a call that failed leaves is what is handed on
 pub stops-residual : {D T : Type 0} (told : D → Option Store) (before now : House D) (waiting : List Waiting) (statement : Statement) (why : HouseFault) (result : Result T HouseFault)
     → IsErrAnd result (λ e. e ≡ why) → StopsTaken told (asking_of statement) why before now
-    → IfErr result (λ w. Stops w (told now.shelf) (record { book = entries_of before; waiting = waiting }) (action.Run statement) (entries_of now))
+    → IfErr result (λ w. Stops (IsToldHouse told before) w (told now.shelf) (record { book = entries_of before; waiting = waiting }) (action.Run statement) (entries_of now))
 stops-residual told before now waiting statement why (Ok x) left stops = tt
 stops-residual {T = T} told before now waiting statement why (Err w) left stops =
-    subst (λ (e : HouseFault). Stops e (told now.shelf) (record { book = entries_of before; waiting = waiting }) (action.Run statement) (entries_of now)) (sym left)
+    subst (λ (e : HouseFault). Stops (IsToldHouse told before) e (told now.shelf) (record { book = entries_of before; waiting = waiting }) (action.Run statement) (entries_of now)) (sym left)
     (stops-taken {T = T} told before now waiting statement (Err why) stops)
 
 pub number-found : (book : List Entry) (helds : List Held) (session : Session) (paused : Paused) → paused_in session.name helds ≡ Some paused
@@ -495,10 +500,10 @@ number-found book helds session paused found =
 -- memory lacked before that
 pub stops-first : {D T : Type 0} (told : D → Option Store) (house : House D) (waiting : List Waiting) (act : Action) (result : Result T HouseFault)
     → IsErrAnd result (λ e. e ≡ fault.NoMemory) → Holds (told house.shelf) (entries_of house)
-    → IfErr result (λ why. Stops why (told house.shelf) (record { book = entries_of house; waiting = waiting }) act (entries_of house))
+    → IfErr result (λ why. Stops (IsToldHouse told house) why (told house.shelf) (record { book = entries_of house; waiting = waiting }) act (entries_of house))
 stops-first told house waiting act (Ok x) is holds = tt
 stops-first told house waiting act (Err why) is holds =
-    subst (λ (e : HouseFault). Stops e (told house.shelf) (record { book = entries_of house; waiting = waiting }) act (entries_of house)) (sym is)
+    subst (λ (e : HouseFault). Stops (IsToldHouse told house) e (told house.shelf) (record { book = entries_of house; waiting = waiting }) act (entries_of house)) (sym is)
     (stops-before (told house.shelf) (record { book = entries_of house; waiting = waiting }) act holds)
 
 pub err-always : {T : Type 0} (result : Result T HouseFault) (P : Type 0) → P → IfErr result (λ _. P)
@@ -616,9 +621,9 @@ err-map (Err why) P Q f p = f why p
 
 pub released-stops : {D : Type 0} (told : D → Option Store) (r : Result Reply HouseFault) (before now : House D) (helds : List Held) (session : Session) (paused : Paused)
     → paused_in session.name helds ≡ Some paused → IfErr r (λ why. HasStopped told paused.way.txn.0 why before now)
-    → IfErr r (λ why. Stops why (told now.shelf) (standing_of before helds) (action.Release session) (entries_of now))
+    → IfErr r (λ why. Stops (IsToldHouse told before) why (told now.shelf) (standing_of before helds) (action.Release session) (entries_of now))
 released-stops told r before now helds session paused found stopped =
-    err-map r (λ why. HasStopped told paused.way.txn.0 why before now) (λ why. Stops why (told now.shelf) (standing_of before helds) (action.Release session) (entries_of now))
+    err-map r (λ why. HasStopped told paused.way.txn.0 why before now) (λ why. Stops (IsToldHouse told before) why (told now.shelf) (standing_of before helds) (action.Release session) (entries_of now))
     (λ why h. stops-in told paused.way.txn.0 why before now (map waiting_of helds) (action.Release session) (number-found (entries_of before) helds session paused found) h tt) stopped
 
 -- ---- where none is held in the session

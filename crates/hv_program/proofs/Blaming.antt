@@ -7,19 +7,19 @@ use Rattle.hv_script.specs.Words.{run_of}
 use Rattle.hv_script.specs.Actions.{refused_at}
 use Rattle.hv_script.specs.declared.words.Command.{Command}
 use Rattle.hv_history.specs.Legal.{profile}
-use Rattle.hv_session.specs.hv_steps.specs.hv_table_reader.specs.hv_acts.specs.declared.told.ToldHouse.{ToldHouse}
-use Rattle.hv_session.specs.hv_steps.specs.hv_table_reader.specs.hv_acts.specs.Told.{seen_in}
-use Rattle.hv_session.specs.hv_steps.specs.hv_table_reader.specs.hv_acts.specs.hv_telling.specs.hv_house.specs.declared.house.House.{House}
-use Rattle.hv_session.specs.hv_steps.specs.hv_table_reader.specs.hv_acts.specs.hv_telling.specs.hv_house.specs.declared.fault.HouseFault.{HouseFault}
-use Rattle.hv_session.specs.hv_steps.specs.hv_table_reader.specs.hv_acts.specs.hv_telling.specs.hv_house.specs.Faults.{EndsRun}
-use Rattle.hv_session.specs.hv_steps.specs.hv_table_reader.specs.hv_acts.specs.hv_telling.specs.hv_house.specs.Housed.{ShutsHard}
-use Rattle.hv_session.specs.hv_steps.specs.hv_table_reader.specs.hv_acts.specs.hv_telling.specs.hv_house.specs.Steps.{IsOpenedOver}
-use Rattle.hv_session.specs.hv_steps.specs.hv_table_reader.specs.hv_acts.specs.hv_telling.specs.hv_house.specs.Booting.{IsBootStore, CanOpen}
-use Rattle.hv_session.specs.hv_steps.specs.hv_table_reader.specs.hv_acts.specs.hv_telling.specs.hv_house.specs.declared.boot.BootFault.{BootFault}
-use Rattle.hv_session.specs.hv_steps.specs.hv_table_reader.specs.hv_acts.specs.hv_telling.specs.hv_house.specs.declared.boot.BootFault.TheVariants as boot
+use Rattle.hv_session.specs.hv_beginning.specs.hv_steps.specs.hv_table_reader.specs.hv_acts.specs.declared.told.ToldHouse.{ToldHouse}
+use Rattle.hv_session.specs.hv_beginning.specs.hv_steps.specs.hv_table_reader.specs.hv_acts.specs.Told.{seen_in}
+use Rattle.hv_session.specs.hv_beginning.specs.hv_steps.specs.hv_table_reader.specs.hv_acts.specs.hv_telling.specs.hv_house.specs.declared.house.House.{House}
+use Rattle.hv_session.specs.hv_beginning.specs.hv_steps.specs.hv_table_reader.specs.hv_acts.specs.hv_telling.specs.hv_house.specs.declared.fault.HouseFault.{HouseFault}
+use Rattle.hv_session.specs.hv_beginning.specs.hv_steps.specs.hv_table_reader.specs.hv_acts.specs.hv_telling.specs.hv_house.specs.Faults.{EndsRun}
+use Rattle.hv_session.specs.hv_beginning.specs.hv_steps.specs.hv_table_reader.specs.hv_acts.specs.hv_telling.specs.hv_house.specs.Housed.{ShutsHard}
+use Rattle.hv_session.specs.hv_beginning.specs.hv_steps.specs.hv_table_reader.specs.hv_acts.specs.hv_telling.specs.hv_house.specs.Steps.{IsOpenedOver}
+use Rattle.hv_session.specs.hv_beginning.specs.hv_steps.specs.hv_table_reader.specs.hv_acts.specs.hv_telling.specs.hv_house.specs.Booting.{IsBootStore, CanOpen}
+use Rattle.hv_session.specs.hv_beginning.specs.hv_steps.specs.hv_table_reader.specs.hv_acts.specs.hv_telling.specs.hv_house.specs.declared.boot.BootFault.{BootFault}
+use Rattle.hv_session.specs.hv_beginning.specs.hv_steps.specs.hv_table_reader.specs.hv_acts.specs.hv_telling.specs.hv_house.specs.declared.boot.BootFault.TheVariants as boot
 use Rattle.hv_program.specs.declared.stop.Stop.{Stop}
 use Rattle.hv_program.specs.declared.stop.Stop.TheVariants as stop
-use Rattle.hv_session.specs.hv_steps.specs.hv_table_reader.specs.hv_acts.specs.hv_telling.specs.hv_house.specs.declared.fault.HouseFault.TheVariants as fault
+use Rattle.hv_session.specs.hv_beginning.specs.hv_steps.specs.hv_table_reader.specs.hv_acts.specs.hv_telling.specs.hv_house.specs.declared.fault.HouseFault.TheVariants as fault
 use Rattle.hv_program.specs.Stops.{stop_of, status_of_stop, Blames, IsShutFor, ShutsFor}
 use Rattle.hv_program.specs.Headline.{Outside}
 use Rattle.hv_program.specs.Refused.{is_one_of, Refuses}
@@ -80,7 +80,7 @@ hard-ran hard now (Ok false) shut kept e = let never : 0 ≡ 5 = e in absurd (om
 hard-ran hard now (Ok true) shut kept e = let never : 1 ≡ 5 = e in absurd (omega (arith, never))
 hard-ran hard now (Err stop.Source) shut kept e = let never : 3 ≡ 5 = e in absurd (omega (arith, never))
 hard-ran hard now (Err stop.Sink) shut kept e = let never : 4 ≡ 5 = e in absurd (omega (arith, never))
-hard-ran hard now (Err stop.Store) shut kept e = kept.rose shut
+hard-ran hard now (Err stop.Store) shut kept e = kept.rose shut.0 shut.1
 hard-ran hard now (Err stop.NoMemory) shut kept e = let never : 7 ≡ 5 = e in absurd (omega (arith, never))
 
 pub hard-run : {D : Type 0} (hard : D → ℕ) (shelf : D) (house : House D) (now : ToldHouse D) (ran : Result Bool Stop) (status last : ℕ) → status ≡ ran_status ran

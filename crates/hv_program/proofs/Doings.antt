@@ -9,7 +9,7 @@ use Rattle.hv_history.specs.declared.entry.Entry.{Entry}
 use Rattle.hv_script.specs.declared.actions.Action.{Action}
 use Rattle.hv_script.specs.declared.actions.Action.TheVariants as action
 use Rattle.hv_stands.specs.Running.{Asking, next_number}
-use Rattle.hv_session.specs.hv_steps.proofs.Replied.{replies-stay}
+use Rattle.hv_session.specs.hv_beginning.specs.hv_steps.proofs.Replied.{replies-stay}
 use Rattle.hv_program.specs.Change.{from_to}
 use Rattle.hv_program.specs.Doing.{Waiting, Standing, is_session, waiting_in, without, asking_of, IsAnswerIn, RepliesAtOnce, IsHeldNow, ReleasesOne, IsDone, AreDone}
 use Rattle.hv_program.specs.Running.{IsLater}

@@ -8,7 +8,7 @@ use Rattle.std.proofs.lemmas.List.{take-append-le}
 use Rattle.std.proofs.lemmas.List.Sums.{fold-append}
 use Rattle.hv_base.specs.declared.ids.TxnId.{TxnId}
 use Rattle.hv_logic.specs.declared.meaning.Meaning.{Meaning}
-use Rattle.hv_logic.specs.declared.meaning.Meaning.TheVariants.{Change, Twice}
+use Rattle.hv_logic.specs.declared.meaning.Meaning.TheVariants.{Change, Ask, Twice}
 use Rattle.hv_history.specs.declared.entry.Entry.{Entry}
 use Rattle.hv_history.specs.declared.entry.Entry.TheVariants as entry
 use Rattle.hv_history.specs.declared.entry.Cause.{Cause}
@@ -17,20 +17,22 @@ use Rattle.hv_history.specs.declared.state.Ending.{Ending}
 use Rattle.hv_history.specs.declared.state.Ending.TheVariants.{Aborted}
 use Rattle.hv_history.specs.declared.state.Transaction.{Transaction}
 use Rattle.hv_history.specs.Asking.{opened_before}
+use Rattle.hv_history.specs.JobsTrue.{Ask as AskedFor, stands_for}
 use Rattle.hv_history.specs.Lasting.{GoesOn, Later}
 use Rattle.hv_history.specs.State.{State, nothing_yet, numbered, meaning, ended, after, state_of}
-use Rattle.hv_history.specs.Legal.{AllFit, HasAsked, profile}
+use Rattle.hv_history.specs.Legal.{AllFit, HasAsked, place_of_snapshot, profile}
 use Rattle.hv_history.proofs.AskingLaws.{opened-within, has-asked-stays}
+use Rattle.hv_history.proofs.JobsStay.{stands-on}
 use Rattle.hv_history.proofs.LastingLaws.{goes-on-all}
 use Rattle.hv_stands.specs.Running.{Asking, AreOf, AreNotOf, IsOf, IsNotOf, meant}
 use Rattle.hv_stands.specs.Statements.{AllFitting}
 use Rattle.hv_stands.proofs.Behind.{entries-are, aborted-there, numbered-behind}
 use Rattle.hv_stands.proofs.Numbers.{numbered-within}
 use Rattle.hv_stands.proofs.Others.{others-leave, others-leave-it}
-use Rattle.hv_session.specs.hv_steps.specs.declared.ready.End.{End}
-use Rattle.hv_session.specs.hv_steps.specs.declared.ready.End.TheVariants as end
-use Rattle.hv_session.specs.hv_steps.specs.Ending.{CanEnd, IsOfChange, EndCanBeNoted, asking_for}
-use Rattle.hv_session.specs.hv_steps.proofs.Standing.{change-stays}
+use Rattle.hv_session.specs.hv_beginning.specs.hv_steps.specs.declared.ready.End.{End}
+use Rattle.hv_session.specs.hv_beginning.specs.hv_steps.specs.declared.ready.End.TheVariants as end
+use Rattle.hv_session.specs.hv_beginning.specs.hv_steps.specs.Ending.{CanEnd, IsOfChange, EndCanBeNoted, asking_for}
+use Rattle.hv_session.specs.hv_beginning.specs.hv_steps.proofs.Standing.{change-stays}
 use Rattle.hv_session.specs.declared.paused.Point.{Point}
 use Rattle.hv_session.specs.declared.paused.Point.TheVariants as point
 use Rattle.hv_session.specs.declared.paused.Paused.{Paused}
@@ -59,6 +61,7 @@ ask-about a b txn by_ false is own = inl (λ of_b. not-same (same-some txn.0 b o
 one-about : (a b : ℕ) → (a ≡ b → ⊥) → (event : Entry) → IsOf a event → IsNotOf b event ⊎ (event ≡ asking_for a b)
 one-about a b apart (entry.Abort txn (cause.Request by_)) of_a = ask-about a b txn by_ (txn.0 == b) refl (same-some by_.0 a of_a)
 one-about a b apart (entry.Abort txn why) of_a = inl (λ of_b. apart (same-some a b (sym of_a ∙ of_b)))
+one-about a b apart (entry.Asked job table partition kind by_) of_a = inl (λ of_b. let never : None ≡ Some b = of_b in cc)
 one-about a b apart event of_a = inl (λ of_b. apart (same-some a b (sym of_a ∙ of_b)))
 
 -- ---- what it comes to can be ended
@@ -66,6 +69,7 @@ one-about a b apart event of_a = inl (λ of_b. apart (same-some a b (sym of_a �
 end-stays : (before more : List Entry) (meaning : Meaning) → AllFitting (before ++ more) → CanEnd before meaning → CanEnd (before ++ more) meaning
 end-stays before more (Change info effect) fit can = change-stays before more info effect fit can
 end-stays before more (Twice partition row) fit can = can
+end-stays before more (Ask table partition kind) fit can = can
 end-stays before more other fit can = tt
 
 last-stays : (before more : List Entry) (txn : ℕ) (given : List (ℕ × ℕ)) (end : End) → AllFitting (before ++ more)
@@ -110,19 +114,25 @@ held-stays before more paused fit alone h = (h.0, held-by before more h.0 paused
 
 -- ---- and what it will say
 
+-- a job that stood for it stands for it still
+jobs-stay : (before more : List Entry) (t : Transaction) → place_of_snapshot t.snapshot < (state_of before).entries
+    → (ask : AskedFor) → stands_for (state_of before) t ask ≡ true → stands_for (state_of (before ++ more)) t ask ≡ true
+jobs-stay before more t early ask stands =
+    ap (λ (s : State). stands_for s t ask) (fold-append after nothing_yet before more) ∙ stands-on ask t more (state_of before) early stands
+
 -- it has asked for all still
 asked-at : (before more : List Entry) (txn : ℕ) (t : Transaction) → numbered (state_of before).transactions txn ≡ Some t
-    → opened_before t.snapshot ≤ length (state_of before).transactions → AreNotOf txn more
+    → opened_before t.snapshot ≤ length (state_of before).transactions → place_of_snapshot t.snapshot < (state_of before).entries → AreNotOf txn more
     → (at : Point) → HasAskedAtPoint before txn at → HasAskedAtPoint (before ++ more) txn at
-asked-at before more txn t here within alone point.Started asked = tt
-asked-at before more txn t here within alone (point.Meant found) asked = tt
-asked-at before more txn t here within alone (point.Ready ready) asked =
+asked-at before more txn t here within early alone point.Started asked = tt
+asked-at before more txn t here within early alone (point.Meant found) asked = tt
+asked-at before more txn t here within early alone (point.Ready ready) asked =
     let goes : GoesOn (state_of before) (state_of (before ++ more)) =
     subst (λ (s : State). GoesOn (state_of before) s) (sym (fold-append after nothing_yet before more)) (goes-on-all more (state_of before)) in
     let there : numbered (state_of (before ++ more)).transactions txn ≡ Some t =
     ap (λ (s : State). numbered s.transactions txn) (fold-append after nothing_yet before more) ∙ others-leave more (state_of before) txn t alone here in
     subst (λ (o : Option Transaction). IsSomeAnd o (λ x. HasAsked (state_of (before ++ more)) txn x (meaning x))) (sym there)
-    (has-asked-stays (state_of before) (state_of (before ++ more)) goes txn t (meaning t) within
+    (has-asked-stays (state_of before) (state_of (before ++ more)) goes txn t (meaning t) (jobs-stay before more t early) within
     (subst (λ (o : Option Transaction). IsSomeAnd o (λ x. HasAsked (state_of before) txn x (meaning x))) here asked))
 
 truly-stays : (before more : List Entry) (paused : Paused) → AllFitting (before ++ more) → AreNotOf paused.way.txn.0 more
@@ -131,12 +141,13 @@ unfolding held-by
 truly-stays before more paused fits alone h =
     let early : paused.way.place < length before = h.held.under_way.early in
     let place : take paused.way.place (before ++ more) ≡ take paused.way.place before = take-append-le paused.way.place before more (omega arith) in
+    let within : paused.way.place < (state_of before).entries = omega (arith, early, entries-are before) in
     record {
       asking = h.asking;
       held = held-by before more h.asking paused fits alone h.held;
       truly = subst (λ (book : List Entry). PointIsTrue (meant book paused.tree) h.held.given paused.point) (sym place) h.truly;
       asked =
-          asked-at before more paused.way.txn.0 _ h.held.under_way.here (opened-within before paused.way.place) alone paused.point h.asked;
+          asked-at before more paused.way.txn.0 _ h.held.under_way.here (opened-within before paused.way.place) within alone paused.point h.asked;
     }
 
 -- ---- one that is stopped

@@ -14,7 +14,7 @@ use Rattle.hv_history.specs.State.{State, Openings, numbered, while_open, ended,
 use Rattle.hv_history.specs.Legal.{LostFits, Fits, AllFit, profile}
 use Rattle.hv_stands.specs.Running.{IsOf, AreOf}
 use Rattle.hv_stands.specs.Statements.{AllFitting}
-use Rattle.hv_session.specs.hv_steps.specs.Ending.{KeepsCount, IsUndamaged}
+use Rattle.hv_session.specs.hv_beginning.specs.hv_steps.specs.Ending.{KeepsCount, IsUndamaged}
 use Rattle.hv_program.proofs.Counted.{counted}
 use Rattle.hv_program.specs.Own.{IsNotLost, IsOfRun, Grows}
 

@@ -9,13 +9,13 @@ use Rattle.hv_history.specs.declared.entry.Entry.{Entry}
 use Rattle.hv_history.specs.Journal.{Reads}
 use Rattle.hv_history.specs.Legal.{IsLegal, profile}
 use Rattle.hv_script.specs.declared.actions.Action.{Action}
-use Rattle.hv_session.specs.hv_steps.specs.hv_table_reader.specs.hv_acts.specs.hv_telling.specs.hv_house.specs.declared.house.House.{House}
-use Rattle.hv_session.specs.hv_steps.specs.hv_table_reader.specs.hv_acts.specs.hv_telling.specs.hv_house.specs.declared.fault.HouseFault.{HouseFault}
-use Rattle.hv_session.specs.hv_steps.specs.hv_table_reader.specs.hv_acts.specs.hv_telling.specs.hv_house.specs.declared.fault.HouseFault.TheVariants as fault
-use Rattle.hv_session.specs.hv_steps.specs.hv_table_reader.specs.hv_acts.specs.hv_telling.specs.hv_house.specs.House.{entries_of, IsFaithful, Leaves}
-use Rattle.hv_session.specs.hv_steps.specs.hv_table_reader.specs.hv_acts.specs.hv_telling.specs.hv_house.specs.Faults.{EndsRun}
-use Rattle.hv_session.specs.hv_steps.specs.hv_table_reader.specs.hv_acts.specs.hv_telling.specs.Telling.{IsWhole, IsToldHouse, OpensLater, StillOpens}
-use Rattle.hv_session.specs.hv_steps.specs.hv_table_reader.specs.hv_acts.specs.hv_telling.proofs.Told.{both-some, true-shown, whole-shown, opens-told}
+use Rattle.hv_session.specs.hv_beginning.specs.hv_steps.specs.hv_table_reader.specs.hv_acts.specs.hv_telling.specs.hv_house.specs.declared.house.House.{House}
+use Rattle.hv_session.specs.hv_beginning.specs.hv_steps.specs.hv_table_reader.specs.hv_acts.specs.hv_telling.specs.hv_house.specs.declared.fault.HouseFault.{HouseFault}
+use Rattle.hv_session.specs.hv_beginning.specs.hv_steps.specs.hv_table_reader.specs.hv_acts.specs.hv_telling.specs.hv_house.specs.declared.fault.HouseFault.TheVariants as fault
+use Rattle.hv_session.specs.hv_beginning.specs.hv_steps.specs.hv_table_reader.specs.hv_acts.specs.hv_telling.specs.hv_house.specs.House.{entries_of, IsFaithful, Leaves}
+use Rattle.hv_session.specs.hv_beginning.specs.hv_steps.specs.hv_table_reader.specs.hv_acts.specs.hv_telling.specs.hv_house.specs.Faults.{EndsRun}
+use Rattle.hv_session.specs.hv_beginning.specs.hv_steps.specs.hv_table_reader.specs.hv_acts.specs.hv_telling.specs.Telling.{IsWhole, IsToldHouse, OpensLater, StillOpens}
+use Rattle.hv_session.specs.hv_beginning.specs.hv_steps.specs.hv_table_reader.specs.hv_acts.specs.hv_telling.proofs.Told.{both-some, true-shown, whole-shown, opens-told}
 use Rattle.hv_program.proofs.Blaming.{passed_up}
 use Rattle.hv_program.specs.declared.held.Held.{Held}
 use Rattle.hv_program.specs.declared.stop.Stop.{Stop}
@@ -126,7 +126,7 @@ Halts-cut told result low middle high start before house helds actions i act rep
 
 Prints-stopped : (why : HouseFault) (told : Option Store) (low middle high : ℕ) (start : List Entry) (before : Standing) (book : List Entry) (actions front behind : List Action) (a b : Option (List ℕ)) (refused : Bool) (act : Action)
     → low ≤ middle → middle ≤ high → actions ≡ front ++ act ∷ behind → IsLegal profile before.book
-    → Prints (from_to low middle) start before front (from_to a b) refused → Stops why told before act book → StopsIn why told (from_to low high) start book actions (from_to a b)
+    → Prints (from_to low middle) start before front (from_to a b) refused → Stops (Unit {0}) why told before act book → StopsIn why told (from_to low high) start book actions (from_to a b)
 Prints-stopped why told low middle high start before book actions front behind a b refused act below above are legal h stops = record {
   front = front;
   action = act;
@@ -149,8 +149,24 @@ leaves-ends fault.Store events told book left = tt
 leaves-ends fault.NoMemory events told book left = tt
 leaves-ends (fault.Failed count) events told book left = absurd left
 
-pub stops-ends : (why : HouseFault) (told : Option Store) (before : Standing) (act : Action) (now : List Entry) → Stops why told before act now → EndsRun why
+pub stops-ends : {Told : Type 0} (why : HouseFault) (told : Option Store) (before : Standing) (act : Action) (now : List Entry) → Stops Told why told before act now → EndsRun why
 stops-ends why told before act now stops = leaves-ends why stops.leaves.0 told now stops.leaves.2
+
+-- it is known that the house was told
+known-stops : {Told : Type 0} (why : HouseFault) (told : Option Store) (before : Standing) (act : Action) (now : List Entry) → Told → Stops Told why told before act now
+    → Stops (Unit {0}) why told before act now
+known-stops why told before act now is stops = record {
+  halfway = record {
+    added = stops.halfway.added;
+    book = stops.halfway.book;
+    of_it = stops.halfway.of_it;
+    fits = stops.halfway.fits;
+    legal = λ known. stops.halfway.legal is;
+    unended = stops.halfway.unended;
+    opens = stops.halfway.opens;
+  };
+  leaves = stops.leaves;
+}
 
 halts : (why : HouseFault) (told : Option Store) (low high : ℕ) (start book : List Entry) (actions : List Action) (a b : Option (List ℕ)) → EndsRun why
     → StopsIn why told (from_to low high) start book actions (from_to a b) → IsSomeAnd told (OpensLater book) → Halts (stop_of why) (from_to low high) start book actions (from_to a b) told
@@ -162,14 +178,15 @@ pub Halts-stopped : {D : Type 0} (told : D → Option Store) (why : HouseFault) 
     (actions : List Action) (i : ℕ) (act : Action) (refused : Bool) (a b : Option (List ℕ)) → IsErrAnd result (λ e. e ≡ stop_of why) → low ≤ middle → middle ≤ high
     → i < length actions → act ≡ get_or actions i act
     → Prints (from_to low middle) start (standing_of before helds) (take i actions) (from_to a b) refused → IsWhole told before → IsToldHouse told before
-    → Stops why (told now.shelf) (standing_of before helds) act (entries_of now) → StillOpens told now
+    → Stops (IsToldHouse told before) why (told now.shelf) (standing_of before helds) act (entries_of now) → StillOpens told now
     → IfErr result (λ e. Halts e (from_to low high) start (entries_of now) actions (from_to a b) (told now.shelf))
 Halts-stopped told why result low middle high start before now helds actions i act refused a b err below above inside is h whole told_of stops opens =
     let shown = whole-shown told before whole told_of in
     passed_up result (stop_of why) (λ e. Halts e (from_to low high) start (entries_of now) actions (from_to a b) (told now.shelf)) err
     (halts why (told now.shelf) low high start (entries_of now) actions a b (stops-ends why (told now.shelf) (standing_of before helds) act (entries_of now) stops)
     (Prints-stopped why (told now.shelf) low middle high start (standing_of before helds) (entries_of now) actions (take i actions) (drop (suc i) actions) a b refused act below above
-    (split_at actions i act inside is) shown.2.legal h stops) (opens-told told now opens))
+    (split_at actions i act inside is) shown.2.legal h
+    (known-stops why (told now.shelf) (standing_of before helds) act (entries_of now) told_of stops)) (opens-told told now opens))
 
 -- ---- all were done
 

@@ -7,12 +7,12 @@ use Rattle.hv_history.specs.Answers.{cause_text}
 use Rattle.hv_journal.specs.Appending.{Holds}
 use Rattle.hv_stands.specs.Running.{Asking}
 use Rattle.hv_base.specs.declared.gate.Stage.{Stage}
-use Rattle.hv_session.specs.hv_steps.specs.hv_table_reader.specs.hv_acts.specs.hv_telling.specs.hv_house.specs.declared.fault.HouseFault.{HouseFault}
-use Rattle.hv_session.specs.hv_steps.specs.hv_table_reader.specs.hv_acts.specs.hv_telling.specs.hv_house.specs.declared.fault.HouseFault.TheVariants as fault
-use Rattle.hv_session.specs.hv_steps.specs.hv_table_reader.specs.hv_acts.specs.hv_telling.specs.hv_house.specs.declared.house.House.{House}
-use Rattle.hv_session.specs.hv_steps.specs.hv_table_reader.specs.hv_acts.specs.hv_telling.specs.hv_house.specs.House.{entries_of}
-use Rattle.hv_session.specs.hv_steps.specs.declared.ready.Reply.{Reply}
-use Rattle.hv_session.specs.hv_steps.specs.Ending.{AddsOf}
+use Rattle.hv_session.specs.hv_beginning.specs.hv_steps.specs.hv_table_reader.specs.hv_acts.specs.hv_telling.specs.hv_house.specs.declared.fault.HouseFault.{HouseFault}
+use Rattle.hv_session.specs.hv_beginning.specs.hv_steps.specs.hv_table_reader.specs.hv_acts.specs.hv_telling.specs.hv_house.specs.declared.fault.HouseFault.TheVariants as fault
+use Rattle.hv_session.specs.hv_beginning.specs.hv_steps.specs.hv_table_reader.specs.hv_acts.specs.hv_telling.specs.hv_house.specs.declared.house.House.{House}
+use Rattle.hv_session.specs.hv_beginning.specs.hv_steps.specs.hv_table_reader.specs.hv_acts.specs.hv_telling.specs.hv_house.specs.House.{entries_of}
+use Rattle.hv_session.specs.hv_beginning.specs.hv_steps.specs.declared.ready.Reply.{Reply}
+use Rattle.hv_session.specs.hv_beginning.specs.hv_steps.specs.Ending.{AddsOf}
 use Rattle.hv_session.specs.declared.paused.Taken.TheVariants as taken
 use Rattle.hv_session.specs.Lines.{IsLine}
 use Rattle.hv_session.specs.Taking.{IsTakenAs}
@@ -34,7 +34,8 @@ still-stops told house asking (Err why) is holds =
         added = [];
         book = sym (append-nil (entries_of house));
         of_it = tt;
-        legal = record { fit = tt; truthful = tt };
+        fits = tt;
+        legal = λ is. record { fit = tt; truthful = tt };
         unended = tt;
         further = [];
         further_of_it = tt;

@@ -21,7 +21,7 @@ use Rattle.hv_program.specs.Reading.{TakesUpTo}
 use Rattle.hv_program.specs.Lines.{words_line, script_line, full_line}
 use Rattle.hv_program.specs.Refused.{is_one_of}
 use Rattle.hv_history.specs.declared.entry.Entry.{Entry}
-use Rattle.hv_session.specs.hv_steps.specs.hv_table_reader.specs.hv_acts.specs.hv_telling.specs.hv_house.specs.Booting.{OpensTo, opening_of}
+use Rattle.hv_session.specs.hv_beginning.specs.hv_steps.specs.hv_table_reader.specs.hv_acts.specs.hv_telling.specs.hv_house.specs.Booting.{OpensTo, opening_of}
 use Rattle.hv_program.specs.Results.{IsServed, IsCutOff}
 use Rattle.hv_program.specs.Headline.{IsWhole, IsAllDone, IsLineOf, IsCutLine, IsUnread, IsAfter, Headline}
 use Rattle.hv_program.specs.Serving.{ServedOf, Serves, IsCutFull, IsSaid, IsSaidOrNot}

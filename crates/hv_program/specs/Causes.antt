@@ -6,7 +6,7 @@ use Rattle.hv_shelf.specs.Disk.{Store}
 use Rattle.hv_script.specs.Words.{run_of}
 use Rattle.hv_script.specs.Actions.{refused_at}
 use Rattle.hv_history.specs.Legal.{profile}
-use Rattle.hv_session.specs.hv_steps.specs.hv_table_reader.specs.hv_acts.specs.hv_telling.specs.hv_house.specs.Booting.{CanOpen, IsCutShortOf}
+use Rattle.hv_session.specs.hv_beginning.specs.hv_steps.specs.hv_table_reader.specs.hv_acts.specs.hv_telling.specs.hv_house.specs.Booting.{CanOpen, IsCutShortOf}
 use Rattle.hv_program.specs.Change.{Change}
 use Rattle.hv_program.specs.Headline.{Outside}
 use Rattle.hv_program.specs.Refused.{is_one_of}

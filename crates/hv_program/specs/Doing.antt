@@ -17,9 +17,9 @@ use Rattle.hv_history.specs.Answers.{line, cause_text}
 use Rattle.hv_stands.specs.Running.{Asking, next_number, opening, AreOf}
 use Rattle.hv_law_next.specs.Order.{AllInOrder}
 use Rattle.hv_law_next.specs.Carrying.{IsAtHold, HasAskedAt}
-use Rattle.hv_session.specs.hv_steps.specs.Ending.{HasReplied}
+use Rattle.hv_session.specs.hv_beginning.specs.hv_steps.specs.Ending.{HasReplied}
 use Rattle.hv_session.specs.Faults.{IsFaultLine}
-use Rattle.hv_session.specs.hv_steps.specs.hv_table_reader.specs.hv_acts.specs.hv_telling.specs.hv_house.specs.Asking.{CanBegin}
+use Rattle.hv_session.specs.hv_beginning.specs.hv_steps.specs.hv_table_reader.specs.hv_acts.specs.hv_telling.specs.hv_house.specs.Asking.{CanBegin}
 use Rattle.hv_session.specs.Taking.{StartsIfItCan, EndsBefore, HoldsAt}
 use Rattle.hv_program.specs.Change.{Change}
 

@@ -1,4 +1,3 @@
-pub use Rattle.hv_session as hv_session
 pub mod Change
 pub mod Doing
 pub mod Own

@@ -5,7 +5,7 @@ use Rattle.std.specs.List.{AllByRecursion}
 use Rattle.hv_history.specs.declared.entry.Entry.{Entry}
 use Rattle.hv_history.specs.declared.entry.Entry.TheVariants as entry
 use Rattle.hv_history.specs.declared.entry.Cause.TheVariants as cause
-use Rattle.hv_session.specs.hv_steps.specs.Ending.{KeepsCount, IsUndamaged}
+use Rattle.hv_session.specs.hv_beginning.specs.hv_steps.specs.Ending.{KeepsCount, IsUndamaged}
 
 abbrev pub IsNotLost : Entry → Type 0
 IsNotLost (entry.Abort txn cause.Lost) = ⊥

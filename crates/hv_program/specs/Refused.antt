@@ -7,8 +7,8 @@ use Rattle.hv_base.specs.Sink.{Gains, GainsPart}
 use Rattle.hv_script.specs.Words.{run_of}
 use Rattle.hv_script.specs.Actions.{refused_at}
 use Rattle.hv_history.specs.Legal.{profile}
-use Rattle.hv_recovery.specs.Recovery.{IsBadJournalAt}
-use Rattle.hv_session.specs.hv_steps.specs.hv_table_reader.specs.hv_acts.specs.hv_telling.specs.hv_house.specs.Booting.{IsFullAt, HasNoBook, HasFullBook, CanOpen}
+use Rattle.hv_session.specs.hv_beginning.specs.hv_steps.specs.hv_table_reader.specs.hv_acts.specs.hv_telling.specs.hv_house.specs.hv_recovery.specs.Recovery.{IsBadJournalAt}
+use Rattle.hv_session.specs.hv_beginning.specs.hv_steps.specs.hv_table_reader.specs.hv_acts.specs.hv_telling.specs.hv_house.specs.Booting.{IsFullAt, HasNoBook, HasFullBook, CanOpen}
 use Rattle.hv_program.specs.Lines.{words_line, script_line, journal_line, full_line}
 use Rattle.hv_program.specs.Headline.{Outside}
 

@@ -11,9 +11,9 @@ use Rattle.hv_journal.specs.Appending.{ReadsMore}
 use Rattle.hv_script.specs.declared.actions.Action.{Action}
 use Rattle.hv_law_made.specs.Opening.{whole_jobs}
 use Rattle.hv_law_made.specs.Standing.{Standing as Stands}
-use Rattle.hv_session.specs.hv_steps.specs.hv_table_reader.specs.hv_acts.specs.hv_telling.specs.hv_house.specs.declared.boot.BootFault.TheVariants as fault
-use Rattle.hv_session.specs.hv_steps.specs.hv_table_reader.specs.hv_acts.specs.hv_telling.specs.hv_house.specs.Booting.{opening_of, IsIdle, IsCutOpening}
-use Rattle.hv_session.specs.hv_steps.specs.hv_table_reader.specs.hv_acts.specs.hv_telling.specs.Telling.{OpensLater}
+use Rattle.hv_session.specs.hv_beginning.specs.hv_steps.specs.hv_table_reader.specs.hv_acts.specs.hv_telling.specs.hv_house.specs.declared.boot.BootFault.TheVariants as fault
+use Rattle.hv_session.specs.hv_beginning.specs.hv_steps.specs.hv_table_reader.specs.hv_acts.specs.hv_telling.specs.hv_house.specs.Booting.{opening_of, IsIdle, IsCutOpening}
+use Rattle.hv_session.specs.hv_beginning.specs.hv_steps.specs.hv_table_reader.specs.hv_acts.specs.hv_telling.specs.Telling.{OpensLater}
 use Rattle.hv_program.specs.Change.{Change, from_to}
 use Rattle.hv_program.specs.Doing.{Standing, IsDone, AreDone}
 use Rattle.hv_program.specs.Own.{Grows}

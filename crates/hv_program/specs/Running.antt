@@ -13,12 +13,12 @@ use Rattle.hv_script.specs.declared.actions.Action.{Action}
 use Rattle.hv_script.specs.declared.actions.Action.TheVariants as action
 use Rattle.hv_script.specs.declared.actions.Statement.{Statement}
 use Rattle.hv_stands.specs.Running.{next_number, AreOf}
-use Rattle.hv_session.specs.hv_steps.specs.hv_table_reader.specs.hv_acts.specs.hv_telling.specs.hv_house.specs.declared.fault.HouseFault.{HouseFault}
-use Rattle.hv_session.specs.hv_steps.specs.hv_table_reader.specs.hv_acts.specs.hv_telling.specs.hv_house.specs.declared.fault.HouseFault.TheVariants as fault
-use Rattle.hv_session.specs.hv_steps.specs.hv_table_reader.specs.hv_acts.specs.hv_telling.specs.hv_house.specs.House.{BeginFits, beginning_of, IsFaithful, Leaves}
-use Rattle.hv_session.specs.hv_steps.specs.hv_table_reader.specs.hv_acts.specs.hv_telling.specs.Telling.{OpensLater}
-use Rattle.hv_session.specs.hv_steps.specs.hv_table_reader.specs.hv_acts.specs.Meant.{IsNoEnd}
-use Rattle.hv_session.specs.hv_steps.specs.Phases.{BegunBy}
+use Rattle.hv_session.specs.hv_beginning.specs.hv_steps.specs.hv_table_reader.specs.hv_acts.specs.hv_telling.specs.hv_house.specs.declared.fault.HouseFault.{HouseFault}
+use Rattle.hv_session.specs.hv_beginning.specs.hv_steps.specs.hv_table_reader.specs.hv_acts.specs.hv_telling.specs.hv_house.specs.declared.fault.HouseFault.TheVariants as fault
+use Rattle.hv_session.specs.hv_beginning.specs.hv_steps.specs.hv_table_reader.specs.hv_acts.specs.hv_telling.specs.hv_house.specs.House.{BeginFits, beginning_of, IsFaithful, Leaves}
+use Rattle.hv_session.specs.hv_beginning.specs.hv_steps.specs.hv_table_reader.specs.hv_acts.specs.hv_telling.specs.Telling.{OpensLater}
+use Rattle.hv_session.specs.hv_beginning.specs.hv_steps.specs.hv_table_reader.specs.hv_acts.specs.Meant.{IsNoEnd}
+use Rattle.hv_session.specs.hv_beginning.specs.hv_steps.specs.Phases.{BegunBy}
 use Rattle.hv_session.specs.Doing.{IsHold}
 use Rattle.hv_program.specs.declared.stop.Stop.{Stop}
 use Rattle.hv_program.specs.declared.stop.Stop.TheVariants as stop
@@ -83,6 +83,16 @@ abbrev pub OpensOf : Action → List Entry → Type 0
 OpensOf (action.Run statement) added = BegunBy (asking_of statement) added
 OpensOf other added = Unit {0}
 
+-- what was noted of an action fits behind the book, is legal where that is told, and doesn't end its transaction
+pub record IsPartly (Told : Type 0) (before : Standing) (action : Action) (now : List Entry) : Type 0 where
+  pub added : List Entry
+  pub book : now ≡ before.book ++ added
+  pub of_it : AreOfSome (number_of before action) added
+  pub fits : AllFit profile (state_of before.book) added
+  pub legal : Told → IsLegalFrom profile (state_of before.book) added
+  pub unended : AreNoEnds (number_of before action) added
+  pub opens : OpensOf action added
+
 -- the run stopped in this action: what was noted of it is legal behind the book, and doesn't end its transaction
 pub record IsHalfway (before : Standing) (action : Action) (now : List Entry) : Type 0 where
   pub added : List Entry
@@ -130,9 +140,9 @@ LeavesFurther why told before action now = (further : List Entry) × AreFurther 
     × Leaves why further told now
 
 -- the action wasn't done to its end
-pub record Stops (why : HouseFault) (told : Option Store) (before : Standing) (action : Action)
+pub record Stops (Told : Type 0) (why : HouseFault) (told : Option Store) (before : Standing) (action : Action)
     (now : List Entry) : Type 0 where
-  pub halfway : IsHalfway before action now
+  pub halfway : IsPartly Told before action now
   pub leaves : LeavesFurther why told before action now
 
 -- ---- several
@@ -182,7 +192,7 @@ pub record StopsIn (why : HouseFault) (told : Option Store) (faults : Change ℕ
   pub before : Standing
   pub grows : Grows faults.was faults.now start before.book
   pub legal : IsLegal profile before.book
-  pub stops : Stops why told before action book
+  pub stops : Stops (Unit {0}) why told before action book
   pub output : List ℕ
   pub refused : Bool
   pub are_done : AreDone (from_to start book) (beginning start) before front output refused

@@ -9,9 +9,9 @@ use Rattle.hv_program.specs.Stops.{status_of_stop}
 use Rattle.hv_history.specs.declared.entry.Entry.{Entry}
 use Rattle.hv_history.specs.State.{state_of}
 use Rattle.hv_history.specs.Legal.{load, profile}
-use Rattle.hv_recovery.specs.Recovery.{IsBadJournalAt}
+use Rattle.hv_session.specs.hv_beginning.specs.hv_steps.specs.hv_table_reader.specs.hv_acts.specs.hv_telling.specs.hv_house.specs.hv_recovery.specs.Recovery.{IsBadJournalAt}
 use Rattle.hv_script.specs.declared.actions.Action.{Action}
-use Rattle.hv_session.specs.hv_steps.specs.hv_table_reader.specs.hv_acts.specs.hv_telling.specs.hv_house.specs.Booting.{opening_of, OpensTo, IsFullAt, CanOpen, HasNoBook, HasFullBook}
+use Rattle.hv_session.specs.hv_beginning.specs.hv_steps.specs.hv_table_reader.specs.hv_acts.specs.hv_telling.specs.hv_house.specs.Booting.{opening_of, OpensTo, IsFullAt, CanOpen, HasNoBook, HasFullBook}
 use Rattle.hv_program.specs.Lines.{journal_line, full_line}
 use Rattle.hv_program.specs.Change.{Change, from_to}
 use Rattle.hv_program.specs.Results.{IsServed, IsCutOff, StopsForMemory, StopsForStore}

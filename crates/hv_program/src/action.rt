@@ -1,14 +1,14 @@
 ghost use Rattle.std.specs.Prelude.{◌≡◌, ◌≤◌, [], None, false, IfOk, IfErr};
 ghost use Rattle.hv_actor.specs.Acting.{IsLater};
-ghost use Rattle.hv_session.specs.hv_steps.specs.hv_table_reader.specs.hv_acts.specs.Told.{seen_in};
+ghost use Rattle.hv_session.specs.hv_beginning.specs.hv_steps.specs.hv_table_reader.specs.hv_acts.specs.Told.{seen_in};
 ghost use Rattle.hv_script.specs.declared.actions.Action.TheVariants as action;
-ghost use Rattle.hv_session.specs.hv_steps.specs.hv_table_reader.specs.hv_acts.specs.hv_telling.specs.hv_house.specs.Faults.{FileCause};
-ghost use Rattle.hv_session.specs.hv_steps.specs.hv_table_reader.specs.hv_acts.specs.hv_telling.specs.hv_house.specs.House.{entries_of};
-ghost use Rattle.hv_session.specs.hv_steps.specs.hv_table_reader.specs.hv_acts.specs.hv_telling.specs.hv_house.specs.Housed.{ShutsHard};
+ghost use Rattle.hv_session.specs.hv_beginning.specs.hv_steps.specs.hv_table_reader.specs.hv_acts.specs.hv_telling.specs.hv_house.specs.Faults.{FileCause};
+ghost use Rattle.hv_session.specs.hv_beginning.specs.hv_steps.specs.hv_table_reader.specs.hv_acts.specs.hv_telling.specs.hv_house.specs.House.{entries_of};
+ghost use Rattle.hv_session.specs.hv_beginning.specs.hv_steps.specs.hv_table_reader.specs.hv_acts.specs.hv_telling.specs.hv_house.specs.Housed.{ShutsHard};
 ghost use Rattle.hv_stands.specs.Running.{next_number};
-ghost use Rattle.hv_session.specs.hv_steps.specs.hv_table_reader.specs.hv_acts.specs.hv_telling.specs.Telling.{IsWhole, IsToldHouse, StillOpens};
+ghost use Rattle.hv_session.specs.hv_beginning.specs.hv_steps.specs.hv_table_reader.specs.hv_acts.specs.hv_telling.specs.Telling.{IsWhole, IsToldHouse, StillOpens};
 ghost use Rattle.hv_session.specs.Doing.{CanFinishTaken};
-ghost use Rattle.hv_session.specs.hv_steps.specs.Ending.{AddsOf};
+ghost use Rattle.hv_session.specs.hv_beginning.specs.hv_steps.specs.Ending.{AddsOf};
 ghost use Rattle.hv_session.specs.Taking.{asked_of, IsKeptIn, IsTakenAs};
 ghost use Rattle.hv_session.specs.Ways.{StopsTaken};
 ghost use Rattle.hv_program.specs.Doing.{asking_of, session_line};
@@ -20,9 +20,9 @@ use crate::alone::{finish_alone, take_alone};
 use crate::held::{Held, keep, let_go};
 use hv_base::{Duplicate, List, NoMemory, Text};
 use hv_script::{Action, Session, Statement};
-use hv_session::hv_steps::Reply;
-use hv_session::hv_steps::hv_table_reader::hv_acts::ToldHouse;
-use hv_session::hv_steps::hv_table_reader::hv_acts::hv_telling::hv_house::HouseFault;
+use hv_session::hv_beginning::hv_steps::Reply;
+use hv_session::hv_beginning::hv_steps::hv_table_reader::hv_acts::ToldHouse;
+use hv_session::hv_beginning::hv_steps::hv_table_reader::hv_acts::hv_telling::hv_house::HouseFault;
 use hv_session::{Asking, Taken, memory_reply};
 use hv_shelf::Shelf;
 use std::alloc::Global;
@@ -122,7 +122,8 @@ fn run_statement<D: Shelf + Drop>(
         (standing_of house.old.house held.old.items) (standing_of house.new.house held.new.items)
         (action.Run statement.now) reply.text reply.refused) }
     ensures start { house.new.house.start ≡ house.old.house.start }
-    ensures stopped { IfErr result (λ why. Stops why (D.told house.new.house.shelf)
+    ensures stopped { IfErr result (λ why. Stops (IsToldHouse D.told house.old.house) why
+        (D.told house.new.house.shelf)
         (standing_of house.old.house held.old.items) (action.Run statement.now) (entries_of house.new.house)) }
     ensures opens { IsToldHouse D.told house.old.house → IfErr result (λ _. StillOpens D.told house.new.house) }
     ensures cause { FileCause (D.faults house.old.house.shelf) (D.faults house.new.house.shelf) result }
@@ -161,7 +162,8 @@ fn release<D: Shelf + Drop>(
         (standing_of house.old.house held.old.items) (standing_of house.new.house held.new.items)
         (action.Release session.now) reply.text reply.refused) }
     ensures start { house.new.house.start ≡ house.old.house.start }
-    ensures stopped { IfErr result (λ why. Stops why (D.told house.new.house.shelf)
+    ensures stopped { IfErr result (λ why. Stops (IsToldHouse D.told house.old.house) why
+        (D.told house.new.house.shelf)
         (standing_of house.old.house held.old.items) (action.Release session.now) (entries_of house.new.house)) }
     ensures opens { IsToldHouse D.told house.old.house → IfErr result (λ _. StillOpens D.told house.new.house) }
     ensures cause { FileCause (D.faults house.old.house.shelf) (D.faults house.new.house.shelf) result }
@@ -196,7 +198,8 @@ pub fn act<D: Shelf + Drop>(
         (standing_of house.old.house held.old.items) (standing_of house.new.house held.new.items)
         action.now reply.text reply.refused) }
     ensures start { house.new.house.start ≡ house.old.house.start }
-    ensures stopped { IfErr result (λ why. Stops why (D.told house.new.house.shelf)
+    ensures stopped { IfErr result (λ why. Stops (IsToldHouse D.told house.old.house) why
+        (D.told house.new.house.shelf)
         (standing_of house.old.house held.old.items) action.now (entries_of house.new.house)) }
     ensures opens { IsToldHouse D.told house.old.house → IfErr result (λ _. StillOpens D.told house.new.house) }
     ensures cause { FileCause (D.faults house.old.house.shelf) (D.faults house.new.house.shelf) result }

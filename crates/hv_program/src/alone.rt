@@ -1,22 +1,22 @@
 //! A statement of a session, over a house on which nobody else acts: all that is promised of it then.
 ghost use Rattle.std.specs.Prelude.{◌≡◌, ◌≤◌, length, IfOk, IfErr};
 ghost use Rattle.hv_actor.specs.Acting.{IsLater};
-ghost use Rattle.hv_session.specs.hv_steps.specs.hv_table_reader.specs.hv_acts.specs.Told.{seen_in};
-ghost use Rattle.hv_session.specs.hv_steps.specs.hv_table_reader.specs.hv_acts.specs.hv_telling.specs.hv_house.specs.Faults.{FileCause};
-ghost use Rattle.hv_session.specs.hv_steps.specs.hv_table_reader.specs.hv_acts.specs.hv_telling.specs.hv_house.specs.House.{entries_of};
-ghost use Rattle.hv_session.specs.hv_steps.specs.hv_table_reader.specs.hv_acts.specs.hv_telling.specs.hv_house.specs.Housed.{ShutsHard};
+ghost use Rattle.hv_session.specs.hv_beginning.specs.hv_steps.specs.hv_table_reader.specs.hv_acts.specs.Told.{seen_in};
+ghost use Rattle.hv_session.specs.hv_beginning.specs.hv_steps.specs.hv_table_reader.specs.hv_acts.specs.hv_telling.specs.hv_house.specs.Faults.{FileCause};
+ghost use Rattle.hv_session.specs.hv_beginning.specs.hv_steps.specs.hv_table_reader.specs.hv_acts.specs.hv_telling.specs.hv_house.specs.House.{entries_of};
+ghost use Rattle.hv_session.specs.hv_beginning.specs.hv_steps.specs.hv_table_reader.specs.hv_acts.specs.hv_telling.specs.hv_house.specs.Housed.{ShutsHard};
 ghost use Rattle.hv_stands.specs.Running.{next_number};
-ghost use Rattle.hv_session.specs.hv_steps.specs.hv_table_reader.specs.hv_acts.specs.hv_telling.specs.Telling.{IsWhole, IsToldHouse, StillOpens};
+ghost use Rattle.hv_session.specs.hv_beginning.specs.hv_steps.specs.hv_table_reader.specs.hv_acts.specs.hv_telling.specs.Telling.{IsWhole, IsToldHouse, StillOpens};
 ghost use Rattle.hv_session.specs.Doing.{IsHold, CanFinish, CanFinishTaken};
-ghost use Rattle.hv_session.specs.hv_steps.specs.Ending.{AddsOf, HasStopped};
+ghost use Rattle.hv_session.specs.hv_beginning.specs.hv_steps.specs.Ending.{AddsOf, HasStopped};
 ghost use Rattle.hv_session.specs.Taking.{asked_of, IsKeptIn, IsTakenAs, IsFinished};
 ghost use Rattle.hv_session.specs.Ways.{StopsTaken};
 ghost use Rattle.hv_program.specs.Keeping.{StandsTruly};
 ghost use Rattle.hv_program.specs.Stops.{IsShutFor};
 
-use hv_session::hv_steps::Reply;
-use hv_session::hv_steps::hv_table_reader::hv_acts::ToldHouse;
-use hv_session::hv_steps::hv_table_reader::hv_acts::hv_telling::hv_house::HouseFault;
+use hv_session::hv_beginning::hv_steps::Reply;
+use hv_session::hv_beginning::hv_steps::hv_table_reader::hv_acts::ToldHouse;
+use hv_session::hv_beginning::hv_steps::hv_table_reader::hv_acts::hv_telling::hv_house::HouseFault;
 use hv_session::{Asking, How, Paused, Taken, finish, take_up};
 use hv_shelf::Shelf;
 use std::alloc::Global;

@@ -2,7 +2,7 @@ ghost use Rattle.std.specs.Prelude.{List, ℕ, Bool};
 ghost use Rattle.hv_shelf.specs.Disk.{Store};
 ghost use Rattle.hv_history.specs.declared.entry.Entry.{Entry};
 ghost use Rattle.hv_script.specs.declared.actions.Action.{Action};
-ghost use Rattle.hv_session.specs.hv_steps.specs.hv_table_reader.specs.hv_acts.specs.hv_telling.specs.Telling.{OpensLater};
+ghost use Rattle.hv_session.specs.hv_beginning.specs.hv_steps.specs.hv_table_reader.specs.hv_acts.specs.hv_telling.specs.Telling.{OpensLater};
 ghost use Rattle.hv_program.specs.Change.{from_to};
 ghost use Rattle.hv_program.specs.Results.{IsServed, IsCutOff, IsStopped, ReadsTo, ReadsFurther, StopsForMemory, StopsForStore};
 

@@ -1,8 +1,6 @@
 //! The program: its words, its script, and what it asks to be done, one after another.
 #![tactic(auto)]
 
-pub use hv_session;
-
 mod action;
 mod alone;
 mod held;

@@ -15,8 +15,10 @@ use crate::run::run;
 use crate::stop::Stop;
 use hv_base::{Gate, Limits, Sink, Source, write_all};
 use hv_script::{Action, MAX_SCRIPT, ScriptFault, read_actions, read_run};
-use hv_session::hv_steps::hv_table_reader::hv_acts::ToldHouse;
-use hv_session::hv_steps::hv_table_reader::hv_acts::hv_telling::hv_house::{BootFault, House};
+use hv_session::hv_beginning::hv_steps::hv_table_reader::hv_acts::ToldHouse;
+use hv_session::hv_beginning::hv_steps::hv_table_reader::hv_acts::hv_telling::hv_house::{
+    BootFault, House,
+};
 use hv_shelf::Shelf;
 use std::alloc::Global;
 use std::sync::Wait;

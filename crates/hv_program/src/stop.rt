@@ -3,7 +3,7 @@ ghost use Rattle.hv_program.specs.Stops.{stop_of, status_of_stop};
 ghost use Rattle.hv_program.specs.declared.stop.Stop.TheVariants as stop;
 
 use hv_base::{Failed, NoMemory};
-use hv_session::hv_steps::hv_table_reader::hv_acts::hv_telling::hv_house::HouseFault;
+use hv_session::hv_beginning::hv_steps::hv_table_reader::hv_acts::hv_telling::hv_house::HouseFault;
 use std::alloc::AllocError;
 
 /// Why a run ended before its end.

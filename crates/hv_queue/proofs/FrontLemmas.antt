@@ -7,7 +7,7 @@ use Rattle.hv_history.specs.State.{State, numbered}
 use Rattle.hv_history.specs.Legal.{one_if}
 use Rattle.hv_history.specs.Jobs.{Events, is_up_to, is_open_one, events_at, ended_front, ids_of, watermark}
 use Rattle.hv_ids.specs.declared.notes.IdNote.{IdNote}
-use Rattle.hv_book.specs.Past.{total, total_from}
+use Rattle.hv_tallies.specs.hv_earlier.specs.hv_meta.specs.hv_book.specs.Past.{total, total_from}
 use Rattle.hv_tallies.specs.declared.tally.Reach.{Reach}
 use Rattle.hv_tallies.specs.declared.tally.Tally.{Tally}
 use Rattle.hv_tallies.specs.Tallies.{no_tally, noted_open, counted, tallied, visited}

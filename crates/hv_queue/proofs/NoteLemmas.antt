@@ -5,8 +5,8 @@ use Rattle.std.specs.Option.{option_map}
 use Rattle.hv_history.specs.declared.state.Table.{Table}
 use Rattle.hv_history.specs.State.{Job}
 use Rattle.hv_history.specs.Jobs.{is_failed, ids_of, is_live_one}
-use Rattle.hv_book.specs.declared.notes.TableNote.{TableNote}
-use Rattle.hv_book.specs.Briefs.{brief_table, brief_range, brief_job}
+use Rattle.hv_tallies.specs.hv_earlier.specs.hv_meta.specs.hv_book.specs.declared.notes.TableNote.{TableNote}
+use Rattle.hv_tallies.specs.hv_earlier.specs.hv_meta.specs.hv_book.specs.Briefs.{brief_table, brief_range, brief_job}
 use Rattle.hv_queue.specs.declared.queue.JobState.{JobState}
 use Rattle.hv_queue.specs.Queue.{state_if, state_by, note_state, says}
 

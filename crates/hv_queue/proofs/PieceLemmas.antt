@@ -10,7 +10,7 @@ use Rattle.hv_history.specs.declared.state.Transaction.{Transaction}
 use Rattle.hv_history.specs.State.{State, numbered}
 use Rattle.hv_history.specs.Legal.{one_if}
 use Rattle.hv_history.specs.Jobs.{Events, greatest, write_of, is_up_to, is_above, is_between, inserts, deletes, pieces_of, first_above, is_touch_of, events_if, events_by, events_at, events_from, events_in, ids_of}
-use Rattle.hv_book.specs.Past.{total}
+use Rattle.hv_tallies.specs.hv_earlier.specs.hv_meta.specs.hv_book.specs.Past.{total}
 use Rattle.hv_tallies.specs.declared.tally.Reach.{Reach}
 use Rattle.hv_tallies.specs.declared.tally.Tally.{Tally}
 use Rattle.hv_tallies.specs.Tallies.{one_more, no_tally}

@@ -5,13 +5,16 @@ use Rattle.std.specs.Option.{option_map}
 use Rattle.std.specs.List.{slice_get, list_all}
 use Rattle.std.proofs.lemmas.Bool.{and_parts, ltb-true, leb-true}
 use Rattle.hv_base.specs.declared.ids.Touch.{Touch}
+use Rattle.hv_ast.specs.declared.statement.Stmt.{Stmt}
+use Rattle.hv_ast.specs.declared.statement.Stmt.TheVariants as stmt
 use Rattle.hv_history.specs.declared.state.Ending.{Ending}
 use Rattle.hv_history.specs.declared.state.Ending.TheVariants.{Committed, Aborted, Made, Dropped}
 use Rattle.hv_history.specs.declared.state.Transaction.{Transaction}
 use Rattle.hv_history.specs.State.{numbered, opening_tree}
 use Rattle.hv_history.specs.Thresholds.{is_digit, are_digits, number_of, thousandths_by, set_by, set_ended, set_in}
-use Rattle.hv_book.specs.Briefs.{brief, end_of, tree_in}
-use Rattle.hv_book.specs.Commits.{wrote_by, wrote_in}
+use Rattle.hv_tallies.specs.hv_earlier.specs.hv_meta.specs.hv_book.specs.Briefs.{brief, end_of, tree_in}
+use Rattle.hv_tallies.specs.hv_earlier.specs.hv_meta.specs.hv_book.specs.Commits.{wrote_by, wrote_in}
+use Rattle.hv_tallies.specs.hv_earlier.specs.hv_meta.specs.hv_book.specs.Said.{said}
 use Rattle.hv_queue.specs.Settings.{scale, padded, set_with, set_next, place_of_end, end_place}
 
 -- ---- a fold by numbers
@@ -19,6 +22,12 @@ use Rattle.hv_queue.specs.Settings.{scale, padded, set_with, set_next, place_of_
 drop-nil : {A : Type 0} (n : ℕ) → drop {A = A} n [] ≡ []
 drop-nil zero = refl
 drop-nil (suc n) = refl
+
+-- what is kept of a text sets the same
+set-said : (key : List ℕ) (reads : List ℕ → Option ℕ) (tree : Option Stmt) → set_by key reads (option_map said tree) ≡ set_by key reads tree
+set-said key reads None = refl
+set-said key reads (Some (stmt.Insert insert)) = refl
+set-said key reads (Some tree) = refl
 
 module _ (opening : Option ℕ) (key : List ℕ) (reads : List ℕ → Option ℕ) where
   fold-at : (ts : List Transaction) (n : ℕ) (found : Option (ℕ × ℕ))
@@ -53,7 +62,8 @@ module _ (opening : Option ℕ) (key : List ℕ) (reads : List ℕ → Option �
   pub committed-set : (found : Option (ℕ × ℕ)) (o : Option Transaction) (wrote : List Touch) → wrote_in o ≡ Some wrote
       → set_with opening (set_by key reads (tree_in o)) found (end_place (option_map brief o)) ≡ set_next opening key reads found o
   committed-set found None wrote is = cc
-  committed-set found (Some t) wrote is = by t.ending is
+  committed-set found (Some t) wrote is =
+      ap (λ value. set_with opening value found (end_place (option_map brief (Some t)))) (set-said key reads (opening_tree t)) ∙ by t.ending is
     where
       by : (e : Option Ending) → wrote_by e ≡ Some wrote
           → set_with opening (set_by key reads (opening_tree t)) found (place_of_end (option_map end_of e)) ≡ set_ended opening (set_by key reads (opening_tree t)) e found

@@ -10,9 +10,9 @@ use Rattle.hv_history.specs.declared.entry.JobKind.TheVariants as kind
 use Rattle.hv_history.specs.State.{Job, state_of}
 use Rattle.hv_history.specs.Jobs.{Events, larger, greatest, is_kind, is_busy, high_by, high_of, base_high, any_high, last_job, is_failed, failed_behind, mark_by, first_above, low_by as low_by_pair, low_after, minor_low, jobs_in}
 use Rattle.hv_history.specs.Thresholds.{is_behind_place}
-use Rattle.hv_book.specs.declared.jobs.JobNote.{JobNote}
-use Rattle.hv_book.specs.Briefs.{brief_job, brief_range}
-use Rattle.hv_book.proofs.LoadLaws.{working-same}
+use Rattle.hv_tallies.specs.hv_earlier.specs.hv_meta.specs.hv_book.specs.declared.jobs.JobNote.{JobNote}
+use Rattle.hv_tallies.specs.hv_earlier.specs.hv_meta.specs.hv_book.specs.Briefs.{brief_job, brief_range}
+use Rattle.hv_tallies.specs.hv_earlier.specs.hv_meta.specs.hv_book.proofs.LoadLaws.{working-same}
 use Rattle.hv_tallies.specs.declared.survey.Survey.{Survey}
 use Rattle.hv_tallies.specs.Jobs.{is_major, range_high, is_busy_note, no_survey, surveyed, low_by_range, low_of, notes_in}
 use Rattle.hv_queue.specs.Queue.{failed_by, failed_note, number_or}

@@ -6,7 +6,7 @@ use Rattle.hv_history.specs.State.{State, Job, numbered}
 use Rattle.hv_history.specs.Legal.{is_working}
 use Rattle.hv_history.specs.Jobs.{Events, Pieces, is_ready, has_succeeded, is_failed, is_up_to, ids_of, events_in, watermark, is_live_one, unless_empty, kind_over}
 use Rattle.hv_history.specs.Thresholds.{is_behind_place}
-use Rattle.hv_book.specs.declared.jobs.JobNote.{JobNote}
+use Rattle.hv_tallies.specs.hv_earlier.specs.hv_meta.specs.hv_book.specs.declared.jobs.JobNote.{JobNote}
 use Rattle.hv_queue.specs.declared.queue.JobPieces.{JobPieces}
 use Rattle.hv_queue.specs.declared.queue.JobState.{JobState}
 use Rattle.hv_queue.specs.declared.queue.JobState.TheVariants as job

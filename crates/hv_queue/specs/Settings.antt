@@ -2,8 +2,8 @@
 use Rattle.std.specs.Prelude.{if◌then◌else◌, ℕ, ◌*◌, ◌==◌, ◌++◌, Bool, Option, Some, None, List, [], ◌∷◌, take}
 use Rattle.hv_history.specs.declared.state.Transaction.{Transaction}
 use Rattle.hv_history.specs.Thresholds.{are_digits, number_of, count_in, thousandths_in, set_at, set_in, delta_key, percent_key}
-use Rattle.hv_book.specs.declared.notes.End.{End}
-use Rattle.hv_book.specs.declared.notes.TransactionNote.{TransactionNote}
+use Rattle.hv_tallies.specs.hv_earlier.specs.hv_meta.specs.hv_book.specs.declared.notes.End.{End}
+use Rattle.hv_tallies.specs.hv_earlier.specs.hv_meta.specs.hv_book.specs.declared.notes.TransactionNote.{TransactionNote}
 
 -- by how much the number of so many digits of a fraction counts more, one to three of them, in thousandths
 abbrev pub scale : ℕ → ℕ

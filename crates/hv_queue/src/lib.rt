@@ -1,6 +1,9 @@
 //! What compaction is due over a book, and how far its jobs have come.
 #![tactic(auto)]
 
+pub use hv_history;
+pub use hv_tallies;
+
 mod digits;
 mod queue;
 mod settings;

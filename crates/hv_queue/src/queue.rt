@@ -2,13 +2,13 @@ ghost use Rattle.std.specs.Prelude.{◌≡◌, ℕ, ◌+◌, ◌*◌, ◌≤◌,
 ghost use Rattle.hv_history.specs.State.{state_of, Job, numbered};
 ghost use Rattle.hv_history.specs.Legal.{one_if};
 ghost use Rattle.hv_history.specs.Jobs.{ids_of, watermark, mark_by, pieces_for, pieces_up_to, is_empty_of, kind_over, unless_empty, is_live_one, due};
-ghost use Rattle.hv_book.specs.Briefs.{brief_job};
+ghost use Rattle.hv_tallies.specs.hv_earlier.specs.hv_meta.specs.hv_book.specs.Briefs.{brief_job};
 ghost use Rattle.hv_queue.specs.Queue.{state_by, note_state, says, front_by, number_or, low_by, no_pieces, pieces_by, pieces_in, is_counted, is_much_by, kind_by, due_by, failed_note, may_ask_by, HasFewRows, IsReach};
 
 use crate::settings::{delta_threshold, is_behind_place, opening, percent_threshold};
 use hv_base::{JobId, NoMemory, TableId, Text, WriteId};
-use hv_book::{Book, JobNote};
 use hv_history::{JobKind, numbered};
+use hv_tallies::hv_earlier::hv_meta::hv_book::{Book, JobNote};
 use hv_tallies::{Reach, Survey, Tally, asked_at, both, minor_low, one_more, survey_in, walk};
 
 /// How far a compaction job has come.

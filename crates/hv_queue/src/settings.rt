@@ -6,8 +6,8 @@ ghost use Rattle.hv_queue.specs.Settings.{key_of, reads_of, set_with, set_next, 
 
 use crate::digits::{count_in, thousandths_in};
 use hv_ast::{Setting, Stmt};
-use hv_book::{Book, TransactionNote};
 use hv_history::numbered;
+use hv_tallies::hv_earlier::hv_meta::hv_book::{Book, TransactionNote};
 
 #[tactic(auto, unfolding(crate::specs::Settings::key_of))]
 fn key_of(is_percent: bool) -> &'static str

@@ -7,4 +7,4 @@ mod reading;
 
 pub use fault::TextFault;
 pub use laws::runs_and_is_not_refused;
-pub use reading::{read_statement, read_text};
+pub use reading::{read_statement, read_text, skim_statement};

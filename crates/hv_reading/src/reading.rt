@@ -4,6 +4,7 @@ ghost use Rattle.std.specs.Prelude.{◌≡◌, Some, IfOk, IfErr};
 ghost use Rattle.hv_grammar.specs.Texts.{tree_of};
 ghost use Rattle.hv_built.specs.Running.{Runs};
 ghost use Rattle.hv_reading.specs.Faults.{IsFaultOf, IsRefusalOf};
+ghost use Rattle.hv_reading.specs.Without.{RunsBut};
 
 use crate::fault::TextFault;
 use hv_ast::{Stmt, discard};
@@ -11,7 +12,7 @@ use hv_base::Text;
 use hv_built::is_built;
 use hv_lex::lex;
 use hv_parse_stmt::{is_set, parse_set, parse_stmt};
-use hv_values_text::{Unread, read_values};
+use hv_values_text::{Unread, read_values, skim_values};
 use std::alloc::Global;
 
 /// The statement that a text of any form is: a SET text by its own rule, another by its tokens.
@@ -53,4 +54,28 @@ pub fn read_statement(alloc: Global, text: &Text) -> Result<Stmt, TextFault>
     }
     discard(tree);
     Err(TextFault::Syntax)
+}
+
+/// The statement that a text is, with all that it says.
+fn read_all(alloc: Global, text: &Text) -> Result<Stmt, TextFault>
+    ensures tree { IfOk result (RunsBut text.now) }
+    ensures fault { IfErr result (λ fault. IsRefusalOf fault text.now) }
+{
+    match read_statement(alloc, text) {
+        Ok(tree) => Ok(tree),
+        Err(fault) => Err(fault),
+    }
+}
+
+/// The statement that a text is, as `read_statement`, but without the rows that an INSERT writes out: of these, which
+/// are most of a journal, no tree is made. Each is tested all the same.
+pub fn skim_statement(alloc: Global, text: &Text) -> Result<Stmt, TextFault>
+    ensures tree { IfOk result (RunsBut text.now) }
+    ensures fault { IfErr result (λ fault. IsRefusalOf fault text.now) }
+{
+    match skim_values(alloc, text) {
+        Ok(tree) => Ok(tree),
+        Err(Unread::Unknown) => read_all(alloc, text),
+        Err(Unread::NoMemory) => Err(TextFault::NoMemory),
+    }
 }

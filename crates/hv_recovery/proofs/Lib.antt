@@ -1,3 +1,4 @@
 pub mod Blocks
 pub mod Books
 pub mod Answered
+pub mod Skims

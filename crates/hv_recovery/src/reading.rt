@@ -1,8 +1,9 @@
-ghost use Rattle.std.specs.Prelude.{◌≡◌, ◌≤◌, ◌++◌, ◌∷◌, [], ◌⊎◌, ℕ, List, length, IfOk, OnOk, IfErr, IsErrOf, MatchResult};
+ghost use Rattle.std.specs.Option.{option_map};
+ghost use Rattle.std.specs.Prelude.{◌≡◌, ◌≤◌, ◌++◌, ◌∷◌, [], ◌⊎◌, ℕ, List, length, IfOk, OnOk, OnErr, IfErr, IsErrOf, MatchResult};
 ghost use Rattle.hv_base.specs.Told.{Tells};
 ghost use Rattle.hv_shelf.specs.Causes.{HardCause};
 ghost use Rattle.hv_history.specs.declared.entry.Entry.{Entry};
-ghost use Rattle.hv_history.specs.Book.{tree_of_entry};
+ghost use Rattle.hv_fits.specs.hv_book.specs.Said.{said, said_of_entry};
 ghost use Rattle.hv_history.specs.Journal.{Leads, place_of};
 ghost use Rattle.hv_history.specs.State.{nothing_yet, state_of};
 ghost use Rattle.hv_history.specs.Legal.{Fits, AllFit};
@@ -13,12 +14,12 @@ ghost use Rattle.hv_recovery.specs.Recovery.{IsJournalOf, IsBadJournalAt, IsFaul
 use crate::bytes::journal_bytes;
 use crate::fault::OpenFault;
 use hv_ast::Stmt;
-use hv_base::Limits;
+use hv_base::{Limits, NoMemory};
 use hv_fits::fits;
 use hv_fits::hv_book::Book;
 use hv_history::Entry;
 use hv_journal::next_record;
-use hv_reading::{TextFault, read_statement};
+use hv_reading::{TextFault, skim_statement};
 use hv_shelf::Shelf;
 use std::alloc::Global;
 
@@ -32,15 +33,15 @@ fn refusal(fault: TextFault, at: u64) -> OpenFault
     }
 }
 
-/// The tree that is kept beside the entry at this gate.
+/// The tree of the text of the entry at this gate, without the rows that an INSERT writes out.
 fn tree_beside(alloc: Global, entry: &Entry, at: u64) -> Result<Option<Stmt>, OpenFault>
-    ensures tree { IfOk result (λ tree. tree ≡ tree_of_entry entry.now) }
+    ensures tree { IfOk result (λ tree. option_map said tree ≡ said_of_entry entry.now) }
     ensures statement { OnOk result (HasStatement entry.now) }
     ensures handed { IfOk result (IsHanded entry.now) }
     ensures bad { IfErr result (IsRefusedAt (HasStatement entry.now) at) }
 {
     match entry {
-        Entry::Opened { text, .. } => match read_statement(alloc, text) {
+        Entry::Opened { text, .. } => match skim_statement(alloc, text) {
             Ok(tree) => Ok(Some(tree)),
             Err(fault) => Err(refusal(fault, at)),
         },
@@ -50,7 +51,7 @@ fn tree_beside(alloc: Global, entry: &Entry, at: u64) -> Result<Option<Stmt>, Op
 
 fn discard<T: Drop>(_value: T) {}
 
-/// The tree that is kept beside the entry at this gate, where the entry fits the book.
+/// What is kept of the tree of the entry at this gate, or more of it, where the entry fits the book.
 fn judge(
     alloc: Global,
     limits: &Limits,
@@ -59,7 +60,7 @@ fn judge(
     at: u64,
 ) -> Result<Option<Stmt>, OpenFault>
     requires fit { AllFit limits.now nothing_yet book.now.entries }
-    ensures tree { IfOk result (λ tree. tree ≡ tree_of_entry entry.now) }
+    ensures tree { IfOk result (λ tree. option_map said tree ≡ said_of_entry entry.now) }
     ensures good { OnOk result (Fits limits.now (state_of book.now.entries) entry.now) }
     ensures bad { IfErr result
         (IsRefusedAt (Fits limits.now (state_of book.now.entries) entry.now) at) }
@@ -70,6 +71,22 @@ fn judge(
     } else {
         discard(tree);
         Err(OpenFault::BadJournal { at })
+    }
+}
+
+/// Appends an entry with what is kept of its text's tree, or with more of it.
+fn append(book: &mut Book, entry: Entry, tree: Option<Stmt>) -> Result<(), NoMemory>
+    requires tree { option_map said tree ≡ said_of_entry entry }
+    ensures ok { OnOk result (book.new.entries ≡ book.old.entries ++ entry ∷ []) }
+    ensures err { OnErr result (book.new.entries ≡ book.old.entries) }
+{
+    if book.reserve(1).is_ok() {
+        book.put_said(entry, tree);
+        Ok(())
+    } else {
+        discard(entry);
+        discard(tree);
+        Err(NoMemory)
     }
 }
 
@@ -88,7 +105,7 @@ fn admit(
 {
     match judge(alloc, limits, book, &entry, at) {
         Ok(tree) => {
-            book.push(entry, tree)?;
+            append(book, entry, tree)?;
             Ok(())
         }
         Err(fault) => {

@@ -8,6 +8,8 @@ pub mod Narrowed
 pub mod Spots
 pub mod UseNodes
 pub mod WideNodes
+pub mod FitNodes
+pub mod Fitting
 pub mod PushNodes
 pub mod Pruning
 pub mod Moving

@@ -3,6 +3,7 @@
 #![tactic(auto)]
 
 mod conditions;
+mod fits;
 mod keeping;
 mod places;
 mod push;
@@ -10,6 +11,7 @@ mod reach;
 mod uses;
 mod widths;
 
+pub use fits::widths_fit;
 pub use keeping::{PartitionTest, TableUse};
 pub use push::push_down;
 pub use uses::{prune, prune_rows};

@@ -47,8 +47,8 @@ fn unions_have_items(width: usize, unions: &[TypedUnion]) -> bool
     true
 }
 
-// Whether each select of the query shows so many values.
-fn shows(width: usize, query: &TypedQuery) -> bool
+/// Whether each select of the query shows so many values.
+pub(crate) fn shows(width: usize, query: &TypedQuery) -> bool
     ensures { result ≡ shows width query.now }
 {
     has_items(width, &query.select) && unions_have_items(width, query.unions.as_slice())

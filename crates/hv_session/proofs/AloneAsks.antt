@@ -23,9 +23,9 @@ use Rattle.hv_trail.specs.declared.trail.TrailItem.TheVariants.{Noted}
 use Rattle.hv_trail.specs.Trail.{book_of}
 use Rattle.hv_trail.proofs.LastingLaws.{book-append}
 use Rattle.hv_law_next.specs.Order.{AsksInOrder, CauseInOrder, IsInOrder, AllInOrder}
-use Rattle.hv_steps.specs.Ending.{asking_for, IsUndamaged, IsAskedBy}
-use Rattle.hv_steps.specs.Requests.{first_left, IsAskOf}
-use Rattle.hv_steps.proofs.Books.{fit-behind}
+use Rattle.hv_beginning.specs.hv_steps.specs.Ending.{asking_for, IsUndamaged, IsAskedBy}
+use Rattle.hv_beginning.specs.hv_steps.specs.Requests.{first_left, IsAskOf}
+use Rattle.hv_beginning.specs.hv_steps.proofs.Books.{fit-behind}
 use Rattle.hv_session.proofs.AloneEnds.{IsOpenOne, IsEndedHere, end-ends, ended-stays, of-one}
 
 -- ---- one book that is split in two ways

@@ -31,35 +31,35 @@ use Rattle.hv_trail.proofs.LastingLaws.{book-append}
 use Rattle.hv_meta.specs.States.{state_in}
 use Rattle.hv_law_next.specs.Order.{CauseInOrder, IsInOrder, AllInOrder}
 use Rattle.hv_actor.specs.Acting.{IsAlone, known}
-use Rattle.hv_steps.specs.hv_table_reader.specs.hv_acts.specs.hv_telling.specs.hv_house.specs.declared.fault.HouseFault.{HouseFault}
-use Rattle.hv_steps.specs.hv_table_reader.specs.hv_acts.specs.hv_telling.specs.hv_house.specs.declared.fault.HouseFault.TheVariants as fault
-use Rattle.hv_steps.specs.hv_table_reader.specs.hv_acts.specs.hv_telling.specs.hv_house.specs.House.{entries_of, Leaves, BeginFits, beginning_of}
-use Rattle.hv_steps.specs.hv_table_reader.specs.hv_acts.specs.hv_telling.specs.hv_house.specs.Asking.{CanBegin, holder_against}
-use Rattle.hv_steps.specs.hv_table_reader.specs.hv_acts.specs.hv_telling.specs.hv_house.proofs.Beginning.{load-behind-opened, holder-behind-opened}
-use Rattle.hv_steps.specs.hv_table_reader.specs.hv_acts.specs.hv_telling.proofs.Told.{told-stays}
-use Rattle.hv_steps.specs.hv_table_reader.specs.hv_acts.specs.declared.told.ToldHouse.{ToldHouse}
-use Rattle.hv_steps.specs.hv_table_reader.specs.hv_acts.specs.Told.{IsWholeOrClosed, trail_in, book_in}
-use Rattle.hv_steps.specs.hv_table_reader.specs.hv_acts.specs.Answers.{HasNotEnded}
-use Rattle.hv_steps.specs.hv_table_reader.specs.hv_acts.specs.Starting.{IsShort, IsInItsWay}
-use Rattle.hv_steps.specs.hv_table_reader.specs.hv_acts.proofs.Steps.{book-is}
-use Rattle.hv_steps.specs.hv_table_reader.specs.hv_acts.proofs.RunsOn.{waits-unended}
-use Rattle.hv_steps.specs.Ending.{HasStopped, HasReplied, IsUndamaged, aborting}
-use Rattle.hv_steps.specs.declared.ready.Reply.{Reply}
-use Rattle.hv_steps.specs.declared.ready.Way.{Way}
-use Rattle.hv_steps.specs.declared.reply.Done.{Done}
-use Rattle.hv_steps.specs.declared.reply.Done.TheVariants as done
-use Rattle.hv_steps.specs.declared.reply.Opened.{Opened}
-use Rattle.hv_steps.specs.declared.reply.Opened.TheVariants as opened_as
-use Rattle.hv_steps.specs.Going.{IsOpenHouse, AddsOwn, IsGone}
-use Rattle.hv_steps.specs.Phases.{WasSoBetween, OpensAt, IsHinderedBefore, IsNextAt, BeginsAt, StartsAt, IsStoppedAt, NeverStarts, HasBegun, HasNotBegun, Begins, IsShutBeginning, IsShutOpening, BegunBy}
+use Rattle.hv_beginning.specs.hv_steps.specs.hv_table_reader.specs.hv_acts.specs.hv_telling.specs.hv_house.specs.declared.fault.HouseFault.{HouseFault}
+use Rattle.hv_beginning.specs.hv_steps.specs.hv_table_reader.specs.hv_acts.specs.hv_telling.specs.hv_house.specs.declared.fault.HouseFault.TheVariants as fault
+use Rattle.hv_beginning.specs.hv_steps.specs.hv_table_reader.specs.hv_acts.specs.hv_telling.specs.hv_house.specs.House.{entries_of, Leaves, BeginFits, beginning_of}
+use Rattle.hv_beginning.specs.hv_steps.specs.hv_table_reader.specs.hv_acts.specs.hv_telling.specs.hv_house.specs.Asking.{CanBegin, holder_against}
+use Rattle.hv_beginning.specs.hv_steps.specs.hv_table_reader.specs.hv_acts.specs.hv_telling.specs.hv_house.proofs.Beginning.{load-behind-opened, holder-behind-opened}
+use Rattle.hv_beginning.specs.hv_steps.specs.hv_table_reader.specs.hv_acts.specs.hv_telling.proofs.Told.{told-stays}
+use Rattle.hv_beginning.specs.hv_steps.specs.hv_table_reader.specs.hv_acts.specs.declared.told.ToldHouse.{ToldHouse}
+use Rattle.hv_beginning.specs.hv_steps.specs.hv_table_reader.specs.hv_acts.specs.Told.{IsWholeOrClosed, trail_in, book_in}
+use Rattle.hv_beginning.specs.hv_steps.specs.hv_table_reader.specs.hv_acts.specs.Answers.{HasNotEnded}
+use Rattle.hv_beginning.specs.hv_steps.specs.hv_table_reader.specs.hv_acts.specs.Starting.{IsShort, IsInItsWay}
+use Rattle.hv_beginning.specs.hv_steps.specs.hv_table_reader.specs.hv_acts.proofs.Steps.{book-is}
+use Rattle.hv_beginning.specs.hv_steps.specs.hv_table_reader.specs.hv_acts.proofs.RunsOn.{waits-unended}
+use Rattle.hv_beginning.specs.hv_steps.specs.Ending.{HasStopped, HasReplied, IsUndamaged, aborting}
+use Rattle.hv_beginning.specs.hv_steps.specs.declared.ready.Reply.{Reply}
+use Rattle.hv_beginning.specs.hv_steps.specs.declared.ready.Way.{Way}
+use Rattle.hv_beginning.specs.hv_steps.specs.declared.reply.Done.{Done}
+use Rattle.hv_beginning.specs.hv_steps.specs.declared.reply.Done.TheVariants as done
+use Rattle.hv_beginning.specs.hv_steps.specs.declared.reply.Opened.{Opened}
+use Rattle.hv_beginning.specs.hv_steps.specs.declared.reply.Opened.TheVariants as opened_as
+use Rattle.hv_beginning.specs.hv_steps.specs.Going.{IsOpenHouse, AddsOwn, IsGone}
+use Rattle.hv_beginning.specs.hv_steps.specs.Phases.{WasSoBetween, OpensAt, IsHinderedBefore, IsNextAt, BeginsAt, StartsAt, IsStoppedAt, NeverStarts, HasBegun, HasNotBegun, Begins, IsShutBeginning, IsShutOpening, BegunBy}
 use Rattle.hv_session.specs.Taking.{IsWhyNot}
 use Rattle.hv_session.specs.Alone.{AddsNothing, HasGained}
 use Rattle.hv_session.specs.Ways.{HasStarted, IsTurnedAway, IsAnswered, BeginsSo, IsPart, IsTaking, BeginsAlone, HaltsAlone}
 use Rattle.hv_session.proofs.AloneBooks.{adds-alone}
 use Rattle.hv_session.proofs.AloneEnds.{of-one}
 use Rattle.hv_session.proofs.AloneStops.{parts-alone}
-use Rattle.hv_steps.proofs.Books.{fit-behind}
-use Rattle.hv_session.proofs.Openings.{no-fewer, way-waits}
+use Rattle.hv_beginning.specs.hv_steps.proofs.Books.{fit-behind}
+use Rattle.hv_beginning.proofs.Openings.{no-fewer, way-waits}
 use Rattle.hv_session.proofs.Orders.{opened-in-order, of-waiting, locks-are}
 use Rattle.hv_session.proofs.Passing.{part-taking}
 
@@ -103,6 +103,11 @@ there s number txn P whose fit =
     let same : number ≡ txn = one_value number txn whose in
     inr (omega (arith, within.1, same))
 
+-- a job is asked for by nobody, or by one that is there
+asker-there : (s : State) (by_ txn : ℕ) (P : Transaction → Type 0) → Some by_ ≡ Some txn → (by_ ≡ 0) ⊎ Of s by_ P → IsNextOrThere s txn
+asker-there s by_ txn P whose (inl nobody) = let same : by_ ≡ txn = one_value by_ txn whose in inr (omega (arith, nobody, same))
+asker-there s by_ txn P whose (inr asker) = there s by_ txn P whose asker
+
 fits-of : (s : State) (event : Entry) (txn : ℕ) → Fits profile s event → IsOf txn event → IsNextOrThere s txn
 fits-of s (entry.Opened id session number text) txn fits whose = inl (sym (one_value id.0 txn whose) ∙ fits.next)
 fits-of s (entry.Start id statement) txn fits whose = there s id.0 txn (StartFits profile s statement) whose fits
@@ -115,7 +120,7 @@ fits-of s (entry.Abort id why) txn fits whose = there s id.0 txn (CauseFits prof
 fits-of s (entry.Create id table) txn fits whose = there s id.0 txn (CreateFits s table.0) whose fits
 fits-of s (entry.Drop id table) txn fits whose = there s id.0 txn (DropFits s table.0) whose fits
 fits-of s (entry.Boot run) txn fits whose = let never : None ≡ Some txn = whose in let wrong : ⊥ = cc in absurd wrong
-fits-of s (entry.Asked job table partition kind by_) txn fits whose = let never : None ≡ Some txn = whose in let wrong : ⊥ = cc in absurd wrong
+fits-of s (entry.Asked job table partition kind by_) txn fits whose = asker-there s by_ txn _ whose fits.asker
 fits-of s (entry.Picked job mark) txn fits whose = let never : None ≡ Some txn = whose in let wrong : ⊥ = cc in absurd wrong
 fits-of s (entry.Published job low high mark) txn fits whose = let never : None ≡ Some txn = whose in let wrong : ⊥ = cc in absurd wrong
 fits-of s (entry.Empty job) txn fits whose = let never : None ≡ Some txn = whose in let wrong : ⊥ = cc in absurd wrong
@@ -454,7 +459,7 @@ module _ {D : Type 0} (told : D → Option Store) (faults : D → ℕ) (B : List
     halts-number : (txn : ℕ) (why : HouseFault) (before now : ToldHouse D) → WasSoBetween before now (IsNextAt txn) → HasStopped told txn why before.house now.house
         → txn ≡ next_number (entries_of before.house)
     halts-number txn why before now next stopped =
-        by (first-number first stopped.added txn stopped.legal.fit stopped.of_it (omega (arith, low, was)))
+        by (first-number first stopped.added txn stopped.fits stopped.of_it (omega (arith, low, was)))
       where
         first : List Entry
         first = entries_of before.house
@@ -495,7 +500,7 @@ module _ {D : Type 0} (told : D → Option Store) (faults : D → ℕ) (B : List
                 (subst (λ (b : List Entry). Leaves fault.Store (beginning_of b asking) (told now.house.shelf) b) there_ shut.cut.leaves);
           }));
           opens = λ is. kept.opens (told-stays told before.house now.house gained.start is);
-          cause = record { later = gained.later; failed = adds.later.rises running shut.is };
+          cause = record { later = gained.later; failed = adds.later.rises running shut.is.0 shut.is.1 };
         }
 
     stops-opening : {T : Type 0} (asking : Asking) (own own' : List ℕ) (before now : ToldHouse D) → IsOpenHouse before → IsWholeOrClosed told now.house
@@ -515,7 +520,7 @@ module _ {D : Type 0} (told : D → Option Store) (faults : D → ℕ) (B : List
                 (subst (λ (b : List Entry). Leaves fault.Store (opening b asking ∷ []) (told now.house.shelf) b) there_ shut.cut.leaves);
           }));
           opens = λ is. kept.opens (told-stays told before.house now.house gained.start is);
-          cause = record { later = gained.later; failed = adds.later.rises running shut.is };
+          cause = record { later = gained.later; failed = adds.later.rises running shut.is.0 shut.is.1 };
         }
 
     pub halts-alone : (T : Type 0) → HaltsAlone T told faults B meanwhile

@@ -1,27 +1,26 @@
 -- Where others add nothing: what one's own acts added is all that was added.
-use Rattle.std.proofs.Common.{◌≡◌, ℕ, ◌+◌, Option, Some, None, List, [], ◌∷◌, ◌++◌, length, sym, ap, ◌∙◌, subst}
+use Rattle.std.proofs.Common.{◌≡◌, ℕ, ◌+◌, Option, Some, None, List, [], ◌∷◌, ◌++◌, length, fold, sym, ap, ◌∙◌, subst}
 use Rattle.std.specs.Prelude.{IsSomeAnd}
-use Rattle.std.specs.List.{AllByRecursion}
 use Rattle.hv_shelf.specs.Disk.{Store}
 use Rattle.hv_history.specs.declared.entry.Entry.{Entry}
-use Rattle.hv_history.specs.declared.entry.Entry.TheVariants as entry
-use Rattle.hv_history.specs.declared.entry.Cause.TheVariants as cause
-use Rattle.hv_history.specs.declared.state.Transaction.{Transaction}
-use Rattle.hv_history.specs.State.{State, state_of, nothing_yet, numbered, after}
-use Rattle.hv_history.specs.Legal.{Fits, CauseFits, IsTruthful, AllFit, AllTruthful, IsLegalFrom, profile}
+use Rattle.hv_history.specs.State.{State, state_of, nothing_yet, after}
+use Rattle.hv_history.specs.Legal.{AllFit, AllTruthful, IsLegalFrom, IsLegal, profile}
 use Rattle.hv_trail.specs.declared.trail.TrailItem.{TrailItem}
 use Rattle.hv_trail.specs.Trail.{book_of}
 use Rattle.hv_trail.proofs.LastingLaws.{book-append}
 use Rattle.hv_actor.specs.Acting.{Went, Woven, Nothing, items_of, known}
-use Rattle.hv_steps.specs.hv_table_reader.specs.hv_acts.specs.hv_telling.specs.hv_house.specs.House.{entries_of}
-use Rattle.hv_steps.specs.hv_table_reader.specs.hv_acts.specs.Told.{trail_in}
-use Rattle.hv_steps.specs.hv_table_reader.specs.hv_acts.specs.declared.told.ToldHouse.{ToldHouse}
-use Rattle.hv_steps.specs.Going.{faults_in, AddsOwn, Gains}
-use Rattle.hv_steps.specs.hv_table_reader.specs.hv_acts.proofs.Steps.{book-is}
-use Rattle.hv_steps.specs.Ending.{AddsOf}
-use Rattle.hv_steps.specs.hv_table_reader.specs.hv_acts.specs.Meant.{IsNoEnd}
+use Rattle.hv_beginning.specs.hv_steps.specs.hv_table_reader.specs.hv_acts.specs.hv_telling.specs.hv_house.specs.declared.house.House.{House}
+use Rattle.hv_beginning.specs.hv_steps.specs.hv_table_reader.specs.hv_acts.specs.hv_telling.specs.hv_house.specs.House.{entries_of}
+use Rattle.hv_beginning.specs.hv_steps.specs.hv_table_reader.specs.hv_acts.specs.hv_telling.specs.hv_house.proofs.Openings.{legal-front}
+use Rattle.hv_beginning.specs.hv_steps.specs.hv_table_reader.specs.hv_acts.specs.hv_telling.specs.Telling.{OpensLater, StillOpens}
+use Rattle.hv_beginning.specs.hv_steps.specs.hv_table_reader.specs.hv_acts.specs.hv_telling.proofs.Told.{opens-told}
+use Rattle.hv_beginning.specs.hv_steps.specs.hv_table_reader.specs.hv_acts.specs.Told.{trail_in}
+use Rattle.hv_beginning.specs.hv_steps.specs.hv_table_reader.specs.hv_acts.specs.declared.told.ToldHouse.{ToldHouse}
+use Rattle.hv_beginning.specs.hv_steps.specs.Going.{faults_in, AddsOwn, Gains}
+use Rattle.hv_beginning.specs.hv_steps.specs.hv_table_reader.specs.hv_acts.proofs.Steps.{book-is}
+use Rattle.hv_beginning.specs.hv_steps.specs.Ending.{AddsOf}
 use Rattle.hv_session.specs.Alone.{AddsNothing, HasGained, OpenIsWhole}
-use Rattle.hv_steps.proofs.Books.{fit-behind}
+use Rattle.hv_beginning.specs.hv_steps.proofs.Books.{fit-behind}
 
 -- ---- trails
 
@@ -62,44 +61,28 @@ nothing-is-added xs is = is
 pub open-is-whole : {D : Type 0} (told : D → Option Store) → OpenIsWhole told
 open-is-whole told now open_ kept = kept.whole open_
 
--- ---- entries that end nothing
+-- ---- what stands behind a book
 
--- an abort that is asked for is true of whatever transaction is there
-some-there : (P : Transaction → Type 0) (o : Option Transaction) → IsSomeAnd o P → IsSomeAnd o (λ _. Unit {0})
-some-there P None is = is
-some-there P (Some t) is = tt
+-- it fits where all fits
+pub fits-behind : (book more now : List Entry) → now ≡ book ++ more → AllFit profile nothing_yet now → AllFit profile (state_of book) more
+fits-behind book more now is fit = fit-behind nothing_yet book more (subst (AllFit profile nothing_yet) is fit)
 
--- one of them is true whatever it says
-true-one : (state : State) (txn : ℕ) (event : Entry) → IsNoEnd txn event → Fits profile state event → IsTruthful state event
-true-one state txn (entry.Opened other session number text) stays fits = tt
-true-one state txn (entry.Start other statement) stays fits = tt
-true-one state txn (entry.Given other table write) stays fits = tt
-true-one state txn (entry.Commit other wrote) stays fits = absurd stays
-true-one state txn (entry.Abort other (cause.Request by_)) stays fits =
-    some-there (CauseFits profile state other.0 (cause.Request by_)) (numbered state.transactions other.0) fits
-true-one state txn (entry.Abort other why) stays fits = absurd stays
-true-one state txn (entry.Create other table) stays fits = absurd stays
-true-one state txn (entry.Drop other table) stays fits = absurd stays
-true-one state txn (entry.Boot run) stays fits = tt
-true-one state txn (entry.Asked job table partition kind by_) stays fits = tt
-true-one state txn (entry.Picked job watermark) stays fits = tt
-true-one state txn (entry.Published job low high mark) stays fits = tt
-true-one state txn (entry.Empty job) stays fits = tt
-true-one state txn (entry.Cleaned job) stays fits = tt
-true-one state txn (entry.Next other statement number text) stays fits = tt
-true-one state txn (entry.Did other statement wrote) stays fits = tt
-true-one state txn (entry.Alter other table) stays fits = tt
-true-one state txn (entry.Failed job why) stays fits = tt
-true-one state txn (entry.Forgot table write) stays fits = tt
+true-behind : (state : State) (book more : List Entry) → AllTruthful state (book ++ more) → AllTruthful (fold after state book) more
+true-behind state [] more truthful = truthful
+true-behind state (event ∷ book) more truthful = true-behind (after state event) book more truthful.1
 
-all-true : (txn : ℕ) (events : List Entry) (state : State) → AllByRecursion (IsNoEnd txn) events → AllFit profile state events → AllTruthful state events
-all-true txn [] state none fit = tt
-all-true txn (event ∷ events) state none fit =
-    (true-one state txn event none.0 fit.0, all-true txn events (after state event) none.1 fit.1)
+-- and is legal where all is
+pub legal-behind : (book more now : List Entry) → now ≡ book ++ more → IsLegal profile now → IsLegalFrom profile (state_of book) more
+legal-behind book more now is legal = record {
+  fit = fits-behind book more now is legal.fit;
+  truthful = true-behind nothing_yet book more (subst (AllTruthful nothing_yet) is legal.truthful);
+}
 
--- what stands behind a book is legal where all fits
-pub legal-behind : (txn : ℕ) (book more now : List Entry) → now ≡ book ++ more → AllFit profile nothing_yet now → AllByRecursion (IsNoEnd txn) more
-    → IsLegalFrom profile (state_of book) more
-legal-behind txn book more now is fit none =
-    let behind : AllFit profile (state_of book) more = fit-behind nothing_yet book more (subst (AllFit profile nothing_yet) is fit) in
-    record { fit = behind; truthful = all-true txn more (state_of book) none behind }
+later-legal : (book : List Entry) (o : Option Store) → IsSomeAnd o (OpensLater book) → IsLegal profile book
+later-legal book None opens = absurd opens
+later-legal book (Some store) opens =
+    legal-front profile nothing_yet book opens.begins.0 (subst (IsLegal profile) opens.begins.1 opens.opens.left.legal)
+
+-- a house that opens still has a legal book
+pub opens-legal : {D : Type 0} (told : D → Option Store) (house : House D) → StillOpens told house → IsLegal profile (entries_of house)
+opens-legal told house opens = later-legal (entries_of house) (told house.shelf) (opens-told told house opens)

@@ -18,26 +18,26 @@ use Rattle.hv_stands.proofs.Begun.{begins}
 use Rattle.hv_trail.specs.declared.trail.TrailItem.{TrailItem}
 use Rattle.hv_law_next.specs.Order.{AllInOrder}
 use Rattle.hv_law_next.specs.Carrying.{IsAtHold, HasAskedAt}
-use Rattle.hv_steps.specs.hv_table_reader.specs.hv_acts.specs.hv_telling.specs.hv_house.specs.declared.fault.HouseFault.{HouseFault}
-use Rattle.hv_steps.specs.hv_table_reader.specs.hv_acts.specs.hv_telling.specs.hv_house.specs.declared.house.House.{House}
-use Rattle.hv_steps.specs.hv_table_reader.specs.hv_acts.specs.hv_telling.specs.hv_house.specs.House.{entries_of, beginning_of}
-use Rattle.hv_steps.specs.hv_table_reader.specs.hv_acts.specs.hv_telling.specs.hv_house.specs.Asking.{CanBegin}
-use Rattle.hv_steps.specs.hv_table_reader.specs.hv_acts.specs.hv_telling.proofs.Told.{told-stays}
-use Rattle.hv_steps.specs.hv_table_reader.specs.hv_acts.specs.declared.told.ToldHouse.{ToldHouse}
-use Rattle.hv_steps.specs.hv_table_reader.specs.hv_acts.specs.Told.{IsWholeOrClosed}
-use Rattle.hv_session.proofs.Openings.{begun-under, one-tree}
-use Rattle.hv_steps.specs.declared.ready.Way.{Way}
-use Rattle.hv_steps.specs.declared.reply.Done.{Done}
-use Rattle.hv_steps.specs.declared.reply.Done.TheVariants as done
-use Rattle.hv_steps.specs.declared.reply.Opened.TheVariants as opened
+use Rattle.hv_beginning.specs.hv_steps.specs.hv_table_reader.specs.hv_acts.specs.hv_telling.specs.hv_house.specs.declared.fault.HouseFault.{HouseFault}
+use Rattle.hv_beginning.specs.hv_steps.specs.hv_table_reader.specs.hv_acts.specs.hv_telling.specs.hv_house.specs.declared.house.House.{House}
+use Rattle.hv_beginning.specs.hv_steps.specs.hv_table_reader.specs.hv_acts.specs.hv_telling.specs.hv_house.specs.House.{entries_of, beginning_of}
+use Rattle.hv_beginning.specs.hv_steps.specs.hv_table_reader.specs.hv_acts.specs.hv_telling.specs.hv_house.specs.Asking.{CanBegin}
+use Rattle.hv_beginning.specs.hv_steps.specs.hv_table_reader.specs.hv_acts.specs.hv_telling.proofs.Told.{told-stays}
+use Rattle.hv_beginning.specs.hv_steps.specs.hv_table_reader.specs.hv_acts.specs.declared.told.ToldHouse.{ToldHouse}
+use Rattle.hv_beginning.specs.hv_steps.specs.hv_table_reader.specs.hv_acts.specs.Told.{IsWholeOrClosed}
+use Rattle.hv_beginning.proofs.Openings.{begun-under, one-tree}
+use Rattle.hv_beginning.specs.hv_steps.specs.declared.ready.Way.{Way}
+use Rattle.hv_beginning.specs.hv_steps.specs.declared.reply.Done.{Done}
+use Rattle.hv_beginning.specs.hv_steps.specs.declared.reply.Done.TheVariants as done
+use Rattle.hv_beginning.specs.hv_steps.specs.declared.reply.Opened.TheVariants as opened
 use Rattle.hv_session.specs.declared.paused.Point.{Point}
 use Rattle.hv_session.specs.declared.paused.Point.TheVariants as point
 use Rattle.hv_session.specs.declared.paused.Paused.{Paused}
 use Rattle.hv_session.specs.declared.paused.Carried.{Carried}
 use Rattle.hv_session.specs.declared.paused.Carried.TheVariants as carried
-use Rattle.hv_steps.specs.Ending.{KeepsCount, aborting}
-use Rattle.hv_steps.specs.Going.{faults_in, IsOpenHouse, GainsSome}
-use Rattle.hv_steps.specs.Phases.{Begins, BegunBy}
+use Rattle.hv_beginning.specs.hv_steps.specs.Ending.{KeepsCount, aborting}
+use Rattle.hv_beginning.specs.hv_steps.specs.Going.{faults_in, IsOpenHouse, GainsSome}
+use Rattle.hv_beginning.specs.hv_steps.specs.Phases.{Begins, BegunBy}
 use Rattle.hv_session.specs.Doing.{IsHold, up_to}
 use Rattle.hv_session.specs.Taking.{IsAtPlace, IsTrulyHeld, EndsBefore, HasAskedAtPoint}
 use Rattle.hv_session.specs.Alone.{HasGained}

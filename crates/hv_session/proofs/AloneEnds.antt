@@ -22,24 +22,24 @@ use Rattle.hv_stands.proofs.Fitting.{cause-open}
 use Rattle.hv_trail.specs.declared.trail.TrailItem.{TrailItem}
 use Rattle.hv_trail.specs.Trail.{book_of, state_at}
 use Rattle.hv_meta.specs.States.{state_in}
-use Rattle.hv_steps.specs.hv_table_reader.specs.hv_acts.specs.hv_telling.specs.hv_house.specs.House.{entries_of}
-use Rattle.hv_steps.specs.hv_table_reader.specs.hv_acts.specs.hv_telling.proofs.Told.{told-stays}
-use Rattle.hv_steps.specs.hv_table_reader.specs.hv_acts.specs.declared.told.ToldHouse.{ToldHouse}
-use Rattle.hv_steps.specs.hv_table_reader.specs.hv_acts.specs.Told.{IsWholeOrClosed, trail_in}
-use Rattle.hv_steps.specs.hv_table_reader.specs.hv_acts.specs.Answers.{HasNotEnded}
-use Rattle.hv_steps.specs.hv_table_reader.specs.hv_acts.proofs.Steps.{book-is}
-use Rattle.hv_steps.specs.hv_table_reader.specs.hv_acts.proofs.RunsOn.{runs-on, runs-unended, waits-unended}
-use Rattle.hv_steps.specs.Ending.{IsEndOf, HasEndedAt, HasReplied, CanEnd}
-use Rattle.hv_steps.specs.hv_table_reader.specs.hv_acts.specs.Meant.{IsNoEnd}
-use Rattle.hv_steps.specs.declared.reply.Done.{Done}
-use Rattle.hv_steps.specs.declared.reply.Done.TheVariants as done
-use Rattle.hv_steps.specs.declared.reply.Outcome.TheVariants as outcome
-use Rattle.hv_steps.specs.Going.{IsGone, AddsOwn, Gains}
-use Rattle.hv_steps.specs.Phases.{AbortsFor, IsAbortFor, IsUntoldDamage}
+use Rattle.hv_beginning.specs.hv_steps.specs.hv_table_reader.specs.hv_acts.specs.hv_telling.specs.hv_house.specs.House.{entries_of}
+use Rattle.hv_beginning.specs.hv_steps.specs.hv_table_reader.specs.hv_acts.specs.hv_telling.proofs.Told.{told-stays}
+use Rattle.hv_beginning.specs.hv_steps.specs.hv_table_reader.specs.hv_acts.specs.declared.told.ToldHouse.{ToldHouse}
+use Rattle.hv_beginning.specs.hv_steps.specs.hv_table_reader.specs.hv_acts.specs.Told.{IsWholeOrClosed, trail_in}
+use Rattle.hv_beginning.specs.hv_steps.specs.hv_table_reader.specs.hv_acts.specs.Answers.{HasNotEnded}
+use Rattle.hv_beginning.specs.hv_steps.specs.hv_table_reader.specs.hv_acts.proofs.Steps.{book-is}
+use Rattle.hv_beginning.specs.hv_steps.specs.hv_table_reader.specs.hv_acts.proofs.RunsOn.{runs-on, runs-unended, waits-unended}
+use Rattle.hv_beginning.specs.hv_steps.specs.Ending.{IsEndOf, HasEndedAt, HasReplied, CanEnd}
+use Rattle.hv_beginning.specs.hv_steps.specs.hv_table_reader.specs.hv_acts.specs.Meant.{IsNoEnd}
+use Rattle.hv_beginning.specs.hv_steps.specs.declared.reply.Done.{Done}
+use Rattle.hv_beginning.specs.hv_steps.specs.declared.reply.Done.TheVariants as done
+use Rattle.hv_beginning.specs.hv_steps.specs.declared.reply.Outcome.TheVariants as outcome
+use Rattle.hv_beginning.specs.hv_steps.specs.Going.{IsGone, AddsOwn, Gains}
+use Rattle.hv_beginning.specs.hv_steps.specs.Phases.{AbortsFor, IsAbortFor, IsUntoldDamage}
 use Rattle.hv_session.specs.Alone.{AddsNothing, HasGained, IsAbortedAlone, IsRefusedAlone, RefusesAlone, RefusesWaiting, SeesAlone}
 use Rattle.hv_session.proofs.AloneBooks.{went-alone, adds-alone}
-use Rattle.hv_steps.proofs.Books.{fit-behind}
-use Rattle.hv_steps.proofs.Ends.{open-here}
+use Rattle.hv_beginning.specs.hv_steps.proofs.Books.{fit-behind}
+use Rattle.hv_beginning.specs.hv_steps.proofs.Ends.{open-here}
 use Rattle.hv_actor.specs.Acting.{known}
 
 -- ---- it runs

@@ -3,17 +3,20 @@ use Rattle.std.proofs.Common.{◌≡◌, inl, inr, ℕ, ◌<◌, Option, Some, L
 use Rattle.std.specs.Prelude.{IfOk, false, nat_lt}
 use Rattle.std.specs.List.{AllByRecursion}
 use Rattle.std.proofs.lemmas.List.{take-append-le}
+use Rattle.hv_base.specs.declared.ids.TableId.{TableId}
 use Rattle.hv_base.specs.declared.ids.WriteId.{WriteId}
 use Rattle.hv_shelf.specs.Disk.{Store}
 use Rattle.hv_ast.specs.declared.statement.Stmt.{Stmt}
+use Rattle.hv_ast.specs.declared.table.CompactionKind.{CompactionKind}
 use Rattle.hv_logic.specs.declared.catalog.TableInfo.{TableInfo}
 use Rattle.hv_logic.specs.declared.effect.Effect.{Effect}
 use Rattle.hv_logic.specs.declared.meaning.Meaning.{Meaning}
-use Rattle.hv_logic.specs.declared.meaning.Meaning.TheVariants.{Listing, Change, Make, Unmake, Refused, Twice, RowLimit, PartitionLimit, Plain}
+use Rattle.hv_logic.specs.declared.meaning.Meaning.TheVariants.{Listing, Change, Make, Unmake, Refused, Twice, RowLimit, PartitionLimit, Plain, Ask}
 use Rattle.hv_history.specs.declared.entry.Entry.{Entry}
 use Rattle.hv_history.specs.declared.entry.Cause.{Cause}
 use Rattle.hv_history.specs.declared.entry.Cause.TheVariants as cause
 use Rattle.hv_history.specs.Asking.{numbers_in}
+use Rattle.hv_history.specs.JobsTrue.{kind_of}
 use Rattle.hv_history.specs.State.{State, nothing_yet, state_of}
 use Rattle.hv_history.specs.Legal.{AllFit, profile}
 use Rattle.hv_stands.specs.Laws.{changes_in}
@@ -22,49 +25,50 @@ use Rattle.hv_stands.proofs.Begun.{ids-given}
 use Rattle.hv_trail.specs.declared.trail.TrailItem.{TrailItem}
 use Rattle.hv_law_next.specs.Next.{needs_id}
 use Rattle.hv_law_next.specs.Order.{AllInOrder}
-use Rattle.hv_steps.specs.hv_table_reader.specs.hv_acts.specs.hv_telling.specs.hv_house.specs.declared.fault.HouseFault.{HouseFault}
-use Rattle.hv_steps.specs.hv_table_reader.specs.hv_acts.specs.hv_telling.specs.hv_house.specs.House.{entries_of}
-use Rattle.hv_steps.specs.hv_table_reader.specs.hv_acts.specs.hv_telling.specs.Telling.{IsToldHouse}
-use Rattle.hv_steps.specs.hv_table_reader.specs.hv_acts.specs.hv_telling.proofs.Told.{told-stays}
-use Rattle.hv_steps.specs.hv_table_reader.specs.hv_acts.specs.declared.told.ToldHouse.{ToldHouse}
-use Rattle.hv_steps.specs.hv_table_reader.specs.hv_acts.specs.Told.{IsWholeOrClosed, trail_in, book_in}
-use Rattle.hv_steps.specs.hv_table_reader.specs.hv_acts.proofs.Steps.{book-is}
-use Rattle.hv_steps.specs.declared.ready.Way.{Way}
-use Rattle.hv_steps.specs.declared.ready.Ready.{Ready}
-use Rattle.hv_steps.specs.declared.ready.Reply.{Reply}
-use Rattle.hv_steps.specs.declared.reply.Done.{Done}
-use Rattle.hv_steps.specs.declared.reply.Done.TheVariants as done
-use Rattle.hv_steps.specs.declared.reply.Prepared.TheVariants as prepared
+use Rattle.hv_beginning.specs.hv_steps.specs.hv_table_reader.specs.hv_acts.specs.hv_telling.specs.hv_house.specs.declared.fault.HouseFault.{HouseFault}
+use Rattle.hv_beginning.specs.hv_steps.specs.hv_table_reader.specs.hv_acts.specs.hv_telling.specs.hv_house.specs.House.{entries_of}
+use Rattle.hv_beginning.specs.hv_steps.specs.hv_table_reader.specs.hv_acts.specs.hv_telling.specs.Telling.{IsToldHouse}
+use Rattle.hv_beginning.specs.hv_steps.specs.hv_table_reader.specs.hv_acts.specs.hv_telling.proofs.Told.{told-stays}
+use Rattle.hv_beginning.specs.hv_steps.specs.hv_table_reader.specs.hv_acts.specs.declared.told.ToldHouse.{ToldHouse}
+use Rattle.hv_beginning.specs.hv_steps.specs.hv_table_reader.specs.hv_acts.specs.Told.{IsWholeOrClosed, trail_in, book_in}
+use Rattle.hv_beginning.specs.hv_steps.specs.hv_table_reader.specs.hv_acts.proofs.Steps.{book-is}
+use Rattle.hv_beginning.specs.hv_steps.specs.declared.ready.Way.{Way}
+use Rattle.hv_beginning.specs.hv_steps.specs.declared.ready.Ready.{Ready}
+use Rattle.hv_beginning.specs.hv_steps.specs.declared.ready.Reply.{Reply}
+use Rattle.hv_beginning.specs.hv_steps.specs.declared.reply.Done.{Done}
+use Rattle.hv_beginning.specs.hv_steps.specs.declared.reply.Done.TheVariants as done
+use Rattle.hv_beginning.specs.hv_steps.specs.declared.reply.Prepared.TheVariants as prepared
 use Rattle.hv_session.specs.declared.paused.Point.{Point}
 use Rattle.hv_session.specs.declared.paused.Point.TheVariants as point
 use Rattle.hv_session.specs.declared.paused.Paused.{Paused}
-use Rattle.hv_steps.specs.Ending.{aborting, giving, IsUndamaged, AddsNoneOrId, IsAskedBy, EndIsTrue, HasReplied}
-use Rattle.hv_steps.specs.hv_table_reader.specs.hv_acts.specs.Meant.{IsNoEnd}
-use Rattle.hv_steps.specs.Going.{faults_in, IsOpenHouse, AddsOwn, Gains, Goes}
-use Rattle.hv_steps.specs.Requests.{IsAskIn}
-use Rattle.hv_steps.specs.Phases.{EndsBehind, IsAbortFor, AbortsFor, IsUntoldDamage, NoCause, Prepares, PreparesAsked, PreparesTo, EndsEarlyFor, IsWriteFault, GivesId, ConcludesSo, Concludes, AnswersTruly}
+use Rattle.hv_beginning.specs.hv_steps.specs.Ending.{aborting, giving, job_asked, IsUndamaged, AddsNoneOrOne, IsAskedBy, EndIsTrue, HasReplied}
+use Rattle.hv_beginning.specs.hv_steps.specs.hv_table_reader.specs.hv_acts.specs.Meant.{IsNoEnd}
+use Rattle.hv_beginning.specs.hv_steps.specs.Going.{faults_in, IsOpenHouse, AddsOwn, Gains, Goes}
+use Rattle.hv_beginning.specs.hv_steps.specs.Requests.{IsAskIn}
+use Rattle.hv_beginning.specs.hv_steps.specs.Phases.{EndsBehind, IsAbortFor, AbortsFor, IsUntoldDamage, NoCause, AsksJob, Prepares, PreparesAsked, PreparesTo, EndsEarlyFor, BreaksFor, GivesId, ConcludesSo, Concludes, AnswersTruly}
 use Rattle.hv_session.specs.Doing.{ReadiesTo, EndsFrom, EndsAs, EndsFromPoint, Finishes}
 use Rattle.hv_session.specs.Taking.{HasNone, PointIsTrue, IsHeld, IsHeldBySome, IsTrulyHeld}
 use Rattle.hv_session.specs.Alone.{AddsNothing, HasGained}
 use Rattle.hv_session.specs.Ways.{ActsAlone, IsOnWay, IsOwnEnd, IsFinishedAs, EndsAlone}
-use Rattle.hv_steps.proofs.AsksMade.{asks-unended}
-use Rattle.hv_steps.proofs.Books.{all-append, state-behind}
-use Rattle.hv_steps.proofs.Standing.{means-still}
+use Rattle.hv_beginning.specs.hv_steps.proofs.AsksMade.{asks-unended}
+use Rattle.hv_beginning.specs.hv_steps.proofs.Books.{all-append, state-behind}
+use Rattle.hv_beginning.specs.hv_steps.proofs.Standing.{means-still}
 use Rattle.hv_session.proofs.Orders.{order-behind, aborted-in-order, ended-in-order, prepared-in-order, cut-in-order, true-to-commit, needs-no-id}
 use Rattle.hv_session.proofs.Takings.{same-done, readies-unended}
 use Rattle.hv_session.proofs.AloneAsks.{AsksStand, asks-stand, asks-undamaged}
 use Rattle.hv_session.proofs.AloneBooks.{adds-alone}
 use Rattle.hv_session.proofs.AloneStops.{parts-alone}
 use Rattle.hv_session.proofs.AloneEnds.{way-runs, never-gone}
-use Rattle.hv_session.proofs.AlonePrepares.{IsPlain, early-plain, write-plain, or-plain, IsBefore, nothing-before, id-before, all-behind}
+use Rattle.hv_session.proofs.AlonePrepares.{IsPlain, early-plain, breaks-plain, or-plain, IsBefore, nothing-before, id-before, job-before, all-behind}
 use Rattle.hv_session.proofs.AloneConcludes.{IsCleanEnd, clean-so}
+use Rattle.hv_session.proofs.JobsAsked.{job-under}
 use Rattle.hv_actor.specs.Acting.{among, known}
 
 -- ---- what it added to be ready
 
--- nothing, or the write id of its change: it is under way still, and needs no more of them
+-- nothing, or the write id of its change, or the job that it asks for: it is under way still, and needs no more ids
 record IsReadied (book : List Entry) (asking : Asking) (txn place : ℕ) (said : Stmt) (meaning : Meaning) (first : List Entry) : Type 0 where
-  pub shape : AddsNoneOrId txn first
+  pub shape : AddsNoneOrOne txn first
   pub asked : AllByRecursion (IsAskedBy meaning) first
   pub undamaged : AllByRecursion IsUndamaged first
   pub given : List (ℕ × ℕ)
@@ -110,6 +114,7 @@ gives-unended txn (Twice region row) first gives = absurd gives
 gives-unended txn RowLimit first gives = absurd gives
 gives-unended txn PartitionLimit first gives = absurd gives
 gives-unended txn Plain first gives = absurd gives
+gives-unended txn (Ask table partition kind) first gives = subst (AllByRecursion (IsNoEnd txn)) (sym gives.1) (tt, tt)
 
 -- ---- the order of its way
 
@@ -131,7 +136,7 @@ module _ (book : List Entry) (asking : Asking) (txn place : ℕ) (said : Stmt) (
       → IsReadied book asking txn place said (Change info effect) first
   readied-id info effect write first is some =
       subst (IsReadied book asking txn place said (Change info effect)) (sym is) (record {
-        shape = inr (info.table, write, refl);
+        shape = inr (inl (info.table, write, refl));
         asked = ((refl, some), tt);
         undamaged = (tt, tt);
         given = (info.table.0, write.0) ∷ [];
@@ -139,10 +144,25 @@ module _ (book : List Entry) (asking : Asking) (txn place : ℕ) (said : Stmt) (
         has = refl;
       })
 
+  readied-job : (table : TableId) (partition : List ℕ) (kind : CompactionKind) → meant (take place book) said ≡ Some (Ask table partition kind) → (first : List Entry)
+      → AsksJob txn table partition kind first → IsReadied book asking txn place said (Ask table partition kind) first
+  readied-job table partition kind means first (inl none) = readied-none (Ask table partition kind) means first none refl
+  readied-job table partition kind means first (inr is) =
+      let event : Entry = job_asked txn is.0 table partition (kind_of kind) in
+      subst (IsReadied book asking txn place said (Ask table partition kind)) (sym is.1) (record {
+        shape = inr (inr (is.0, table, partition, kind_of kind, refl));
+        asked = (tt, tt);
+        undamaged = (tt, tt);
+        given = [];
+        under_way = job-under book asking txn place said is.0 table partition (kind_of kind) under;
+        has = ap (λ (o : Option Meaning). needs_id [] o) (means-still book asking txn place said [] under (event ∷ []) ∙ means);
+      })
+
   readied : (meaning : Meaning) → meant (take place book) said ≡ Some meaning → (ready : Ready) (first : List Entry) → PreparesTo txn meaning ready first
       → IsReadied book asking txn place said meaning first
   readied (Listing names rows) means ready first so = readied-none (Listing names rows) means first so.0 refl
   readied Plain means ready first so = readied-none Plain means first so.0 refl
+  readied (Ask table partition kind) means ready first so = readied-job table partition kind means first so.0
   readied (Make shape) means ready first so = readied-none (Make shape) means first so.0 refl
   readied (Unmake table) means ready first so = readied-none (Unmake table) means first so.0 refl
   readied (Change info effect) means ready first (inl so) =
@@ -221,6 +241,9 @@ module _ (book : List Entry) (asking : Asking) (txn place : ℕ) (said : Stmt) (
   gives-before RowLimit first gives = absurd gives
   gives-before PartitionLimit first gives = absurd gives
   gives-before Plain first gives = absurd gives
+  gives-before (Ask table partition kind) first gives =
+      subst (IsBefore book txn (Ask table partition kind)) (sym gives.1)
+      (job-before book asking txn place said (Ask table partition kind) gives.0 table partition (kind_of kind) under)
 
   -- it ended while it was prepared
   prepared-way : {D : Type 0} (now : ToldHouse D) (meaning : Meaning) → meant (take place book) said ≡ Some meaning → (reply : Reply) (added : List Entry)
@@ -228,7 +251,7 @@ module _ (book : List Entry) (asking : Asking) (txn place : ℕ) (said : Stmt) (
   prepared-way now meaning means reply added (inl early) =
       aborted-way now meaning means [] (EndsEarlyFor meaning) reply added (nothing-before book asking txn place said meaning under) (early-plain meaning) early
   prepared-way now meaning means reply added (inr broken) =
-      aborted-way now meaning means broken.0 IsWriteFault reply added (gives-before meaning broken.0 broken.1) write-plain broken.2
+      aborted-way now meaning means broken.0 (BreaksFor meaning) reply added (gives-before meaning broken.0 broken.1) (breaks-plain meaning) broken.2
 
   -- behind what it asked for
   way-behind : (asks more added : List Entry) → added ≡ asks ++ more → AllInOrder (state_of book) asks → AllByRecursion IsUndamaged asks → IsInWay (book ++ asks) more
@@ -354,9 +377,9 @@ module _ {D : Type 0} (faults : D → ℕ) (B : List TrailItem → Type 0) (none
       behind-so (asks ++ []) (IsAbortFor way.txn.0 now (EndsEarlyFor meaning)) (all-append (IsNoEnd way.txn.0) asks [] (unended-asks asks all) tt)
       (further way.txn.0 now asks [] (IsAbortFor way.txn.0 now (EndsEarlyFor meaning)) found more added is early)
   prepared-own asks more is all (inr broken) =
-      behind-so (asks ++ broken.0) (IsAbortFor way.txn.0 now IsWriteFault)
+      behind-so (asks ++ broken.0) (IsAbortFor way.txn.0 now (BreaksFor meaning))
       (all-append (IsNoEnd way.txn.0) asks broken.0 (unended-asks asks all) (gives-unended way.txn.0 meaning broken.0 broken.1))
-      (further way.txn.0 now asks broken.0 (IsAbortFor way.txn.0 now IsWriteFault) found more added is broken.2)
+      (further way.txn.0 now asks broken.0 (IsAbortFor way.txn.0 now (BreaksFor meaning)) found more added is broken.2)
 
   asked-own : PreparesAsked way.txn.0 now (IsAskIn now way said) meaning (prepared.Ended found) added → IsOwnEnd found
   asked-own (inl is) = prepared-own is.0 is.1 is.2 is.3 is.4

@@ -6,50 +6,53 @@ use Rattle.std.specs.List.{AllByRecursion}
 use Rattle.hv_base.specs.declared.gate.Stage.{Stage}
 use Rattle.hv_base.specs.declared.gate.Stage.TheVariants as stage
 use Rattle.hv_base.specs.declared.refusal.Refusal.{Refusal}
+use Rattle.hv_base.specs.declared.ids.TableId.{TableId}
 use Rattle.hv_shelf.specs.Disk.{Store}
 use Rattle.hv_ast.specs.declared.statement.Stmt.{Stmt}
+use Rattle.hv_ast.specs.declared.table.CompactionKind.{CompactionKind}
 use Rattle.hv_logic.specs.declared.meaning.Meaning.{Meaning}
-use Rattle.hv_logic.specs.declared.meaning.Meaning.TheVariants.{Listing, Change, Make, Unmake, Refused, Twice, RowLimit, PartitionLimit, Plain}
+use Rattle.hv_logic.specs.declared.meaning.Meaning.TheVariants.{Listing, Change, Make, Unmake, Refused, Twice, RowLimit, PartitionLimit, Plain, Ask}
 use Rattle.hv_history.specs.declared.entry.Entry.{Entry}
 use Rattle.hv_history.specs.declared.entry.Cause.{Cause}
 use Rattle.hv_history.specs.declared.entry.Cause.TheVariants as cause
+use Rattle.hv_history.specs.JobsTrue.{kind_of}
 use Rattle.hv_stands.specs.Running.{Asking, starting, IsOwnCause, meant, IsUnderWay}
 use Rattle.hv_trail.specs.declared.trail.TrailItem.{TrailItem}
-use Rattle.hv_steps.specs.hv_table_reader.specs.hv_acts.specs.hv_telling.specs.hv_house.specs.declared.fault.HouseFault.{HouseFault}
-use Rattle.hv_steps.specs.hv_table_reader.specs.hv_acts.specs.hv_telling.specs.hv_house.specs.House.{entries_of}
-use Rattle.hv_steps.specs.hv_table_reader.specs.hv_acts.specs.hv_telling.specs.Telling.{IsToldHouse}
-use Rattle.hv_steps.specs.hv_table_reader.specs.hv_acts.specs.hv_telling.proofs.Told.{told-stays}
-use Rattle.hv_steps.specs.hv_table_reader.specs.hv_acts.specs.declared.told.ToldHouse.{ToldHouse}
-use Rattle.hv_steps.specs.hv_table_reader.specs.hv_acts.specs.Told.{IsWholeOrClosed, trail_in}
-use Rattle.hv_steps.specs.hv_table_reader.specs.hv_acts.proofs.Aborts.{own-abort}
-use Rattle.hv_steps.specs.declared.ready.Way.{Way}
-use Rattle.hv_steps.specs.declared.ready.Ready.{Ready}
-use Rattle.hv_steps.specs.declared.reply.Done.{Done}
-use Rattle.hv_steps.specs.declared.reply.Done.TheVariants as done
-use Rattle.hv_steps.specs.declared.reply.Outcome.{Outcome}
-use Rattle.hv_steps.specs.declared.reply.Outcome.TheVariants as outcome
-use Rattle.hv_steps.specs.declared.reply.Prepared.TheVariants as prepared
+use Rattle.hv_beginning.specs.hv_steps.specs.hv_table_reader.specs.hv_acts.specs.hv_telling.specs.hv_house.specs.declared.fault.HouseFault.{HouseFault}
+use Rattle.hv_beginning.specs.hv_steps.specs.hv_table_reader.specs.hv_acts.specs.hv_telling.specs.hv_house.specs.House.{entries_of}
+use Rattle.hv_beginning.specs.hv_steps.specs.hv_table_reader.specs.hv_acts.specs.hv_telling.specs.Telling.{IsToldHouse}
+use Rattle.hv_beginning.specs.hv_steps.specs.hv_table_reader.specs.hv_acts.specs.hv_telling.proofs.Told.{told-stays}
+use Rattle.hv_beginning.specs.hv_steps.specs.hv_table_reader.specs.hv_acts.specs.declared.told.ToldHouse.{ToldHouse}
+use Rattle.hv_beginning.specs.hv_steps.specs.hv_table_reader.specs.hv_acts.specs.Told.{IsWholeOrClosed, trail_in}
+use Rattle.hv_beginning.specs.hv_steps.specs.hv_table_reader.specs.hv_acts.proofs.Aborts.{own-abort}
+use Rattle.hv_beginning.specs.hv_steps.specs.declared.ready.Way.{Way}
+use Rattle.hv_beginning.specs.hv_steps.specs.declared.ready.Ready.{Ready}
+use Rattle.hv_beginning.specs.hv_steps.specs.declared.reply.Done.{Done}
+use Rattle.hv_beginning.specs.hv_steps.specs.declared.reply.Done.TheVariants as done
+use Rattle.hv_beginning.specs.hv_steps.specs.declared.reply.Outcome.{Outcome}
+use Rattle.hv_beginning.specs.hv_steps.specs.declared.reply.Outcome.TheVariants as outcome
+use Rattle.hv_beginning.specs.hv_steps.specs.declared.reply.Prepared.TheVariants as prepared
 use Rattle.hv_session.specs.declared.paused.Point.{Point}
 use Rattle.hv_session.specs.declared.paused.Point.TheVariants as point
 use Rattle.hv_session.specs.declared.paused.Paused.{Paused}
 use Rattle.hv_session.specs.declared.paused.Carried.{Carried}
 use Rattle.hv_session.specs.declared.paused.Carried.TheVariants as carried
-use Rattle.hv_steps.specs.Ending.{IsAskBy, AddsNoneOrId, AddsAbort, IsUndamaged, CanEnd, IsReadyToEnd, IsTrulyReady, aborting}
-use Rattle.hv_steps.specs.Going.{faults_in, IsOpenHouse, Goes, WasOnWay}
-use Rattle.hv_steps.specs.Requests.{IsAskIn}
-use Rattle.hv_steps.specs.Phases.{AbortsFor, NoCause, PreparesTo, PreparesAsked, EndsEarlyFor, IsWriteFault, GivesId, Prepares, IsUntoldDamage, Sees}
+use Rattle.hv_beginning.specs.hv_steps.specs.Ending.{IsAskBy, AddsNoneOrOne, AddsAbort, IsUndamaged, CanEnd, IsReadyToEnd, IsTrulyReady, aborting}
+use Rattle.hv_beginning.specs.hv_steps.specs.Going.{faults_in, IsOpenHouse, Goes, WasOnWay}
+use Rattle.hv_beginning.specs.hv_steps.specs.Requests.{IsAskIn}
+use Rattle.hv_beginning.specs.hv_steps.specs.Phases.{AbortsFor, NoCause, AsksJob, PreparesTo, PreparesAsked, EndsEarlyFor, BreaksFor, GivesId, Prepares, IsUntoldDamage, Sees}
 use Rattle.hv_session.specs.Doing.{ReadiesTo, EndsFrom, IsUnrefused, StandsAt, carried_of, is_refused, GoesOnTo, GoesToHold, up_to}
 use Rattle.hv_session.specs.Doing as doing
 use Rattle.hv_session.specs.Taking.{HasAskedAtPoint, EndsEarly, AbortedAtOnce, AbortedBehind, EndsBefore, HoldsAt, IsAtPlace, IsHeld, IsTrulyHeld}
 use Rattle.hv_session.specs.Alone.{HasGained, IsAbortedAlone, SeesSo}
 use Rattle.hv_session.specs.Ways.{ActsAlone, IsPart, IsOnWay, IsOwnEnd, IsFinishedAs, EndsAlone, AddsInOrder, IsInTime, GoesInTime, StandsTruly, GoesAlone}
 use Rattle.hv_session.proofs.Orders.{early-uncommitted, aborted-in-order}
-use Rattle.hv_steps.proofs.Books.{all-map}
+use Rattle.hv_beginning.specs.hv_steps.proofs.Books.{all-map}
 use Rattle.hv_session.proofs.Takings.{unrefused, same-done, asked-truly}
 use Rattle.hv_session.proofs.AloneBooks.{adds-alone}
 use Rattle.hv_session.proofs.AloneStops.{parts-alone}
 use Rattle.hv_session.proofs.AloneEnds.{sees-alone}
-use Rattle.hv_session.proofs.AlonePrepares.{early-plain, write-plain, or-plain}
+use Rattle.hv_session.proofs.AlonePrepares.{early-plain, breaks-plain, or-plain}
 use Rattle.hv_session.proofs.AloneFinishes.{from-alone}
 use Rattle.hv_session.proofs.AloneReadied.{IsReadiedAlone, asked-at, readied-alone}
 use Rattle.hv_actor.specs.Acting.{among, known}
@@ -139,10 +142,11 @@ module _ {D : Type 0} (told : D → Option Store) (now : ToldHouse D) (way : Way
   refused-read RowLimit found added waits own ends = absurd (waits tt)
   refused-read PartitionLimit found added waits own ends = absurd (waits tt)
   refused-read Plain found added waits own ends = absurd (waits tt)
+  refused-read (Ask asked region kind) found added waits own ends = absurd (waits tt)
 
-  -- behind its write id
-  gives-id : (meaning : Meaning) (first : List Entry) → GivesId way.txn.0 meaning first → AddsNoneOrId way.txn.0 first
-  gives-id (Change info effect) first gives = inr (info.table, gives.0, gives.2)
+  -- behind its write id, or its job
+  gives-id : (meaning : Meaning) (first : List Entry) → GivesId way.txn.0 meaning first → AddsNoneOrOne way.txn.0 first
+  gives-id (Change info effect) first gives = inr (inl (info.table, gives.0, gives.2))
   gives-id (Listing names rows) first gives = absurd gives
   gives-id (Make shape) first gives = absurd gives
   gives-id (Unmake table) first gives = absurd gives
@@ -151,6 +155,7 @@ module _ {D : Type 0} (told : D → Option Store) (now : ToldHouse D) (way : Way
   gives-id RowLimit first gives = absurd gives
   gives-id PartitionLimit first gives = absurd gives
   gives-id Plain first gives = absurd gives
+  gives-id (Ask table partition kind) first gives = inr (inr (gives.0, table, partition, kind_of kind, gives.1))
 
   cut-commit : (meaning : Meaning) (found : Done) (added : List Entry) → IsOwnEnd found → Prepares way.txn.0 now meaning (prepared.Ended found) added
       → AddsAbort way.txn.0 added
@@ -158,8 +163,8 @@ module _ {D : Type 0} (told : D → Option Store) (now : ToldHouse D) (way : Way
       let abort = aborts-added way.txn.0 now [] (EndsEarlyFor meaning) found added own ends in
       ([], abort.0, inl refl, (or-plain (EndsEarlyFor meaning) (early-plain meaning) abort.0 abort.1).uncommitted, abort.2)
   cut-commit meaning found added own (inr broken) =
-      let abort = aborts-added way.txn.0 now broken.0 IsWriteFault found added own broken.2 in
-      (broken.0, abort.0, gives-id meaning broken.0 broken.1, (or-plain IsWriteFault write-plain abort.0 abort.1).uncommitted, abort.2)
+      let abort = aborts-added way.txn.0 now broken.0 (BreaksFor meaning) found added own broken.2 in
+      (broken.0, abort.0, gives-id meaning broken.0 broken.1, (or-plain (BreaksFor meaning) (breaks-plain meaning) abort.0 abort.1).uncommitted, abort.2)
 
   prepared-commit : (meaning : Meaning) (found : Done) (added : List Entry) → IsOwnEnd found
       → PreparesAsked way.txn.0 now IsAsk meaning (prepared.Ended found) added → AbortedBehind way.txn.0 (starting way.txn.0 ∷ added)
@@ -193,10 +198,15 @@ module _ {D : Type 0} (told : D → Option Store) (now : ToldHouse D) (way : Way
   at-place stage.Commit (point.Ready ready) place = tt
   at-place hold at place = absurd place
 
-  ready-added : (meaning : Meaning) (ready : Ready) (added : List Entry) → PreparesTo way.txn.0 meaning ready added → AddsNoneOrId way.txn.0 added
+  asks-added : (table : TableId) (partition : List ℕ) (kind : CompactionKind) (added : List Entry) → AsksJob way.txn.0 table partition kind added
+      → AddsNoneOrOne way.txn.0 added
+  asks-added table partition kind added (inl none) = inl none
+  asks-added table partition kind added (inr is) = inr (inr (is.0, table, partition, kind_of kind, is.1))
+
+  ready-added : (meaning : Meaning) (ready : Ready) (added : List Entry) → PreparesTo way.txn.0 meaning ready added → AddsNoneOrOne way.txn.0 added
   ready-added (Listing names rows) ready added so = inl so.0
   ready-added (Change info effect) ready added (inl so) = inl so.0
-  ready-added (Change info effect) ready added (inr so) = inr (info.table, so.0, so.2)
+  ready-added (Change info effect) ready added (inr so) = inr (inl (info.table, so.0, so.2))
   ready-added (Make shape) ready added so = inl so.0
   ready-added (Unmake table) ready added so = inl so.0
   ready-added (Refused refusal) ready added so = absurd so
@@ -204,6 +214,7 @@ module _ {D : Type 0} (told : D → Option Store) (now : ToldHouse D) (way : Way
   ready-added RowLimit ready added so = absurd so
   ready-added PartitionLimit ready added so = absurd so
   ready-added Plain ready added so = inl so.0
+  ready-added (Ask table partition kind) ready added so = asks-added table partition kind added so.0
 
   readied-held : (meaning : Meaning) (ready : Ready) (added : List Entry) → ReadiesTo now way said meaning ready added
       → HoldsAt (Some stage.Commit) way.txn.0 (starting way.txn.0 ∷ added)
@@ -440,7 +451,7 @@ module _ {D : Type 0} (told : D → Option Store) (faults : D → ℕ) (B : List
         (λ asking under. ready-held ready asking (so asking under).stands)
         (λ is. (
           ready-truly ready is_on.0 ((so is_on.0 is_on.1).truly (means is))
-              (asked-at told b way is_on.0 said ready (so is_on.0 is_on.1).stands held.can.1
+              (asked-at told b way is_on.0 said ready (so is_on.0 is_on.1).stands (held.goes was on).done.is.6.3
               (told-stays told a.house b.house (adds-alone faults B acts.nothing own own' a b goes.done.added goes.done.adds).start is)),
           (so is_on.0 is_on.1).in_order (means is),
         ))

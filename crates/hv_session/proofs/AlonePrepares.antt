@@ -1,16 +1,21 @@
 -- Where others add nothing, a statement is prepared as over a house alone.
 use Rattle.std.proofs.Common.{◌≡◌, ◌⊎◌, inl, inr, ℕ, ◌<◌, Option, Some, List, [], ◌∷◌, ◌++◌, refl, sym, ap, ◌∙◌, subst, append-nil, append_assoc}
 use Rattle.std.specs.List.{AllByRecursion}
+use Rattle.hv_base.specs.declared.ids.JobId.{JobId}
+use Rattle.hv_base.specs.declared.ids.TableId.{TableId}
 use Rattle.hv_base.specs.declared.ids.WriteId.{WriteId}
 use Rattle.hv_shelf.specs.Disk.{Store}
 use Rattle.hv_ast.specs.declared.statement.Stmt.{Stmt}
+use Rattle.hv_ast.specs.declared.table.CompactionKind.{CompactionKind}
 use Rattle.hv_logic.specs.declared.catalog.TableInfo.{TableInfo}
 use Rattle.hv_logic.specs.declared.effect.Effect.{Effect}
 use Rattle.hv_logic.specs.declared.meaning.Meaning.{Meaning}
-use Rattle.hv_logic.specs.declared.meaning.Meaning.TheVariants.{Listing, Change, Make, Unmake, Refused, Twice, RowLimit, PartitionLimit, Plain}
+use Rattle.hv_logic.specs.declared.meaning.Meaning.TheVariants.{Listing, Change, Make, Unmake, Refused, Twice, RowLimit, PartitionLimit, Plain, Ask}
 use Rattle.hv_history.specs.declared.entry.Entry.{Entry}
 use Rattle.hv_history.specs.declared.entry.Cause.{Cause}
 use Rattle.hv_history.specs.declared.entry.Cause.TheVariants as cause
+use Rattle.hv_history.specs.declared.entry.JobKind.{JobKind}
+use Rattle.hv_history.specs.JobsTrue.{kind_of}
 use Rattle.hv_history.specs.State.{state_of}
 use Rattle.hv_history.specs.Legal.{Of, IsRunning, TouchesAreMeant}
 use Rattle.hv_history.specs.Answers.{listing, counts_line, committed_text, ok_line}
@@ -19,25 +24,26 @@ use Rattle.hv_stands.specs.Running.{Asking, IsUnderWay}
 use Rattle.hv_stands.specs.Statements.{AllFitting}
 use Rattle.hv_stands.proofs.Begun.{ids-given}
 use Rattle.hv_trail.specs.declared.trail.TrailItem.{TrailItem}
-use Rattle.hv_steps.specs.hv_table_reader.specs.hv_acts.specs.hv_telling.specs.hv_house.specs.House.{entries_of}
-use Rattle.hv_steps.specs.hv_table_reader.specs.hv_acts.specs.declared.told.ToldHouse.{ToldHouse}
-use Rattle.hv_steps.specs.hv_table_reader.specs.hv_acts.specs.Told.{IsWholeOrClosed}
-use Rattle.hv_steps.specs.hv_table_reader.specs.hv_acts.proofs.Steps.{book-is}
-use Rattle.hv_steps.specs.Ending.{IsUndamaged, HasEndedAt, HasReplied, EndsUncommitted, AddsNoneOrId, IsAskedBy, CanEnd, aborting, giving, idle_end}
-use Rattle.hv_steps.specs.hv_table_reader.specs.hv_acts.specs.Meant.{IsNoEnd}
-use Rattle.hv_steps.specs.declared.ready.Way.{Way}
-use Rattle.hv_steps.specs.declared.ready.Ready.{Ready}
-use Rattle.hv_steps.specs.declared.ready.End.TheVariants as end
-use Rattle.hv_steps.specs.declared.reply.Done.{Done}
-use Rattle.hv_steps.specs.declared.reply.Done.TheVariants as done
-use Rattle.hv_steps.specs.declared.reply.Prepared.TheVariants as prepared
-use Rattle.hv_steps.specs.Going.{faults_in, IsOpenHouse, AddsOwn, Gains}
-use Rattle.hv_steps.specs.Phases.{PreparesTo, IsReadyAs, EndsEarlyFor, IsWriteFault, GivesId, AbortsFor, IsAbortFor}
+use Rattle.hv_beginning.specs.hv_steps.specs.hv_table_reader.specs.hv_acts.specs.hv_telling.specs.hv_house.specs.House.{entries_of}
+use Rattle.hv_beginning.specs.hv_steps.specs.hv_table_reader.specs.hv_acts.specs.declared.told.ToldHouse.{ToldHouse}
+use Rattle.hv_beginning.specs.hv_steps.specs.hv_table_reader.specs.hv_acts.specs.Told.{IsWholeOrClosed}
+use Rattle.hv_beginning.specs.hv_steps.specs.hv_table_reader.specs.hv_acts.proofs.Steps.{book-is}
+use Rattle.hv_beginning.specs.hv_steps.specs.Ending.{IsUndamaged, HasEndedAt, HasReplied, EndsUncommitted, AddsNoneOrOne, IsAskedBy, CanEnd, aborting, giving, job_asked, idle_end}
+use Rattle.hv_beginning.specs.hv_steps.specs.hv_table_reader.specs.hv_acts.specs.Meant.{IsNoEnd}
+use Rattle.hv_beginning.specs.hv_steps.specs.declared.ready.Way.{Way}
+use Rattle.hv_beginning.specs.hv_steps.specs.declared.ready.Ready.{Ready}
+use Rattle.hv_beginning.specs.hv_steps.specs.declared.ready.End.TheVariants as end
+use Rattle.hv_beginning.specs.hv_steps.specs.declared.reply.Done.{Done}
+use Rattle.hv_beginning.specs.hv_steps.specs.declared.reply.Done.TheVariants as done
+use Rattle.hv_beginning.specs.hv_steps.specs.declared.reply.Prepared.TheVariants as prepared
+use Rattle.hv_beginning.specs.hv_steps.specs.Going.{faults_in, IsOpenHouse, AddsOwn, Gains}
+use Rattle.hv_beginning.specs.hv_steps.specs.Phases.{AsksJob, PreparesTo, IsReadyAs, EndsEarlyFor, IsWriteFault, NoCause, BreaksFor, GivesId, AbortsFor, IsAbortFor}
 use Rattle.hv_session.specs.Alone.{AddsNothing, HasGained, IsPreparedAlone, PreparesAlone, on_its_way}
-use Rattle.hv_steps.proofs.Touched.{touches-none}
+use Rattle.hv_beginning.specs.hv_steps.proofs.Touched.{touches-none}
 use Rattle.hv_session.proofs.AloneBooks.{adds-alone}
 use Rattle.hv_session.proofs.AloneEnds.{way-runs, runs-open, never-gone, last-named}
-use Rattle.hv_session.proofs.AloneReady.{plain-ready, idle-ready, change-ready}
+use Rattle.hv_session.proofs.AloneReady.{plain-ready, idle-ready, job-ready, change-ready}
+use Rattle.hv_session.proofs.JobsAsked.{job-under}
 use Rattle.hv_actor.specs.Acting.{known}
 
 -- ---- the causes
@@ -57,6 +63,7 @@ never-conflict (Twice region row) by_ table partition never = never
 never-conflict RowLimit by_ table partition never = never
 never-conflict PartitionLimit by_ table partition never = never
 never-conflict Plain by_ table partition never = never
+never-conflict (Ask asked region kind) by_ table partition never = never
 
 never-asked : (meaning : Meaning) (by_ : _) → EndsEarlyFor meaning (cause.Request by_) → ⊥
 never-asked (Listing names rows) by_ never = never
@@ -68,6 +75,7 @@ never-asked (Twice region row) by_ never = never
 never-asked RowLimit by_ never = never
 never-asked PartitionLimit by_ never = never
 never-asked Plain by_ never = never
+never-asked (Ask asked region kind) by_ never = never
 
 never-damaged : (meaning : Meaning) (place : _) → EndsEarlyFor meaning (cause.Damaged place) → ⊥
 never-damaged (Listing names rows) place never = never
@@ -79,6 +87,7 @@ never-damaged (Twice region row) place never = never
 never-damaged RowLimit place never = never
 never-damaged PartitionLimit place never = never
 never-damaged Plain place never = never
+never-damaged (Ask asked region kind) place never = never
 
 pub early-plain : (meaning : Meaning) (why : Cause) → EndsEarlyFor meaning why → IsPlain why
 early-plain meaning (cause.Conflict by_ table partition) is = absurd (never-conflict meaning by_ table partition is)
@@ -116,10 +125,23 @@ pub or-plain : (Causes : Cause → Type 0) → ((why : Cause) → Causes why →
 or-plain Causes plain why (inl is) = plain why is
 or-plain Causes plain why (inr is) = subst IsPlain (sym is) (record { uncommitted = tt; undamaged = λ txn. tt })
 
--- ---- what goes before its abort: nothing, or its write id
+-- those for which it is behind what it noted
+pub breaks-plain : (meaning : Meaning) (why : Cause) → BreaksFor meaning why → IsPlain why
+breaks-plain (Change info effect) why is = write-plain why is
+breaks-plain (Listing names rows) why is = absurd is
+breaks-plain (Make shape) why is = absurd is
+breaks-plain (Unmake table) why is = absurd is
+breaks-plain (Refused refusal) why is = absurd is
+breaks-plain (Twice region row) why is = absurd is
+breaks-plain RowLimit why is = absurd is
+breaks-plain PartitionLimit why is = absurd is
+breaks-plain Plain why is = absurd is
+breaks-plain (Ask table partition kind) why is = absurd is
+
+-- ---- what goes before its abort: nothing, or its write id, or the job that it asks for
 
 pub record IsBefore (book : List Entry) (txn : ℕ) (meaning : Meaning) (first : List Entry) : Type 0 where
-  pub shape : AddsNoneOrId txn first
+  pub shape : AddsNoneOrOne txn first
   pub unended : AllByRecursion (IsNoEnd txn) first
   pub undamaged : AllByRecursion IsUndamaged first
   pub asked : AllByRecursion (IsAskedBy meaning) first
@@ -141,11 +163,22 @@ nothing-before book asking txn place said meaning way = record {
 pub id-before : (book : List Entry) (asking : Asking) (txn place : ℕ) (said : Stmt) (info : TableInfo) (effect : Effect) (write : WriteId) → 0 < changes_in effect
     → IsUnderWay book asking txn place said [] → IsBefore book txn (Change info effect) (giving txn info.table write ∷ [])
 id-before book asking txn place said info effect write some way = record {
-  shape = inr (info.table, write, refl);
+  shape = inr (inl (info.table, write, refl));
   unended = (tt, tt);
   undamaged = (tt, tt);
   asked = ((refl, some), tt);
   runs = way-runs (book ++ giving txn info.table write ∷ []) asking txn place said _ (ids-given book asking txn place said [] info.table write way);
+}
+
+pub job-before : (book : List Entry) (asking : Asking) (txn place : ℕ) (said : Stmt) (meaning : Meaning) (job : JobId) (table : TableId) (partition : List ℕ) (kind : JobKind)
+    → IsUnderWay book asking txn place said [] → IsBefore book txn meaning (job_asked txn job table partition kind ∷ [])
+job-before book asking txn place said meaning job table partition kind way = record {
+  shape = inr (inr (job, table, partition, kind, refl));
+  unended = (tt, tt);
+  undamaged = (tt, tt);
+  asked = (tt, tt);
+  runs = way-runs (book ++ job_asked txn job table partition kind ∷ []) asking txn place said []
+      (job-under book asking txn place said job table partition kind way);
 }
 
 -- ---- it has ended
@@ -192,9 +225,9 @@ module _ {D : Type 0} (told : D → Option Store) (faults : D → ℕ) (B : List
         };
       }
 
-  -- behind its write id
+  -- behind its write id, or its job
   broken-alone : (meaning : Meaning) (first : List Entry) (found : Done) → GivesId way.txn.0 meaning first
-      → Gains faults B (faults_in faults before) way.txn.0 (known own before) (known own' now) (AbortsFor way.txn.0 now first IsWriteFault found)
+      → Gains faults B (faults_in faults before) way.txn.0 (known own before) (known own' now) (AbortsFor way.txn.0 now first (BreaksFor meaning) found)
       → IsPreparedAlone faults (on_its_way asking said way) meaning before now (prepared.Ended found)
   broken-alone (Change info effect) first found gives gains =
       ended-alone (Change info effect) (giving way.txn.0 info.table gives.0 ∷ []) IsWriteFault found
@@ -209,6 +242,12 @@ module _ {D : Type 0} (told : D → Option Store) (faults : D → ℕ) (B : List
   broken-alone RowLimit first found gives gains = absurd gives
   broken-alone PartitionLimit first found gives gains = absurd gives
   broken-alone Plain first found gives gains = absurd gives
+  broken-alone (Ask table partition kind) first found gives gains =
+      ended-alone (Ask table partition kind) (job_asked way.txn.0 gives.0 table partition (kind_of kind) ∷ []) NoCause found
+      (job-before (entries_of before.house) asking way.txn.0 way.place said (Ask table partition kind) gives.0 table partition (kind_of kind) under)
+      (λ why never. absurd never)
+      (subst (λ (f : List Entry). Gains faults B (faults_in faults before) way.txn.0 (known own before) (known own' now)
+      (AbortsFor way.txn.0 now f NoCause found)) gives.1 gains)
 
   -- ---- it is ready
 
@@ -220,10 +259,18 @@ module _ {D : Type 0} (told : D → Option Store) (faults : D → ℕ) (B : List
         → IsPreparedAlone faults (on_its_way asking said way) meaning before now (prepared.Ready ready)
     idle-alone meaning text are says is so = idle-ready faults asking said way before now under ready meaning text are says (same-book is) so.0 so.1
 
+    job-alone : (table : TableId) (partition : List ℕ) (kind : CompactionKind) → AsksJob way.txn.0 table partition kind added → IsReadyAs ready idle_end ok_line
+        → IsPreparedAlone faults (on_its_way asking said way) (Ask table partition kind) before now (prepared.Ready ready)
+    job-alone table partition kind (inl is) so = idle-alone (Ask table partition kind) ok_line refl refl is so
+    job-alone table partition kind (inr is) so =
+        job-ready faults asking said way before now under ready table partition kind is.0
+        (gained.book ∙ ap (λ (xs : List Entry). entries_of before.house ++ xs) is.1) so.0 so.1
+
     ready-alone : (meaning : Meaning) → CanEnd (entries_of before.house) meaning → PreparesTo way.txn.0 meaning ready added
         → IsPreparedAlone faults (on_its_way asking said way) meaning before now (prepared.Ready ready)
     ready-alone (Listing names rows) can so = idle-alone (Listing names rows) (listing names rows) refl refl so.0 so.1
     ready-alone Plain can so = idle-alone Plain ok_line refl refl so.0 so.1
+    ready-alone (Ask table partition kind) can so = job-alone table partition kind so.0 so.1
     ready-alone (Make shape) can so =
         plain-ready faults asking said way before now under ready (Make shape) end.Create ok_line (same-book so.0) so.1.0 so.1.1 tt
         (record { makes = tt; reply = refl; none = refl })
@@ -255,10 +302,10 @@ module _ {D : Type 0} (told : D → Option Store) (faults : D → ℕ) (B : List
       said_as first Causes is = record { added = gains.added; adds = gains.adds; of_it = gains.of_it; counts = gains.counts; is = is; running = gains.running }
 
       by : AbortsFor way.txn.0 now [] (EndsEarlyFor meaning) found gains.added
-          ⊎ ((first : List Entry) × GivesId way.txn.0 meaning first × AbortsFor way.txn.0 now first IsWriteFault found gains.added)
+          ⊎ ((first : List Entry) × GivesId way.txn.0 meaning first × AbortsFor way.txn.0 now first (BreaksFor meaning) found gains.added)
           → IsPreparedAlone faults (on_its_way asking said way) meaning before now (prepared.Ended found)
       by (inl early) =
           ended-alone told faults B none asking said way own own' before now under kept meaning [] (EndsEarlyFor meaning) found
           (nothing-before (entries_of before.house) asking way.txn.0 way.place said meaning under) (early-plain meaning) (said_as [] (EndsEarlyFor meaning) early)
       by (inr broken) =
-          broken-alone told faults B none asking said way own own' before now under kept meaning broken.0 found broken.1 (said_as broken.0 IsWriteFault broken.2)
+          broken-alone told faults B none asking said way own own' before now under kept meaning broken.0 found broken.1 (said_as broken.0 (BreaksFor meaning) broken.2)

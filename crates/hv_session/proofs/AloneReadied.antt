@@ -13,27 +13,27 @@ use Rattle.hv_history.specs.Legal.{Of, IsRunning, HasAsked, AllFit, profile}
 use Rattle.hv_stands.specs.Running.{Asking, meant, IsUnderWay}
 use Rattle.hv_trail.specs.declared.trail.TrailItem.{TrailItem}
 use Rattle.hv_trail.specs.Trail.{book_of, state_at}
-use Rattle.hv_steps.specs.hv_table_reader.specs.hv_acts.specs.hv_telling.specs.hv_house.specs.House.{entries_of}
-use Rattle.hv_steps.specs.hv_table_reader.specs.hv_acts.specs.declared.told.ToldHouse.{ToldHouse}
-use Rattle.hv_steps.specs.hv_table_reader.specs.hv_acts.specs.Told.{IsWholeOrClosed, trail_in}
-use Rattle.hv_steps.specs.hv_table_reader.specs.hv_acts.specs.hv_telling.specs.Telling.{IsToldHouse}
-use Rattle.hv_steps.specs.hv_table_reader.specs.hv_acts.specs.Meant.{IsChangeDue, IsMakeMeant}
-use Rattle.hv_steps.specs.hv_table_reader.specs.hv_acts.proofs.Steps.{book-is}
-use Rattle.hv_steps.specs.hv_table_reader.specs.hv_acts.proofs.Truths.{asked-other, asked-here}
-use Rattle.hv_steps.specs.declared.ready.Way.{Way}
-use Rattle.hv_steps.specs.declared.ready.Ready.{Ready}
-use Rattle.hv_steps.specs.declared.ready.End.{End}
-use Rattle.hv_steps.specs.declared.ready.End.TheVariants as end
-use Rattle.hv_steps.specs.declared.reply.Prepared.TheVariants as prepared
-use Rattle.hv_steps.specs.Ending.{EndCanBeNoted, EndIsTrue, IsReadyToEnd, IsTrulyReady, CanEnd, idle_end}
-use Rattle.hv_steps.specs.Going.{faults_in, Gains}
-use Rattle.hv_steps.specs.Phases.{Prepares, PreparesTo, PreparesAsked, IsDueSo, CanConclude}
-use Rattle.hv_steps.specs.Requests.{IsAskIn}
+use Rattle.hv_beginning.specs.hv_steps.specs.hv_table_reader.specs.hv_acts.specs.hv_telling.specs.hv_house.specs.House.{entries_of}
+use Rattle.hv_beginning.specs.hv_steps.specs.hv_table_reader.specs.hv_acts.specs.declared.told.ToldHouse.{ToldHouse}
+use Rattle.hv_beginning.specs.hv_steps.specs.hv_table_reader.specs.hv_acts.specs.Told.{IsWholeOrClosed, trail_in}
+use Rattle.hv_beginning.specs.hv_steps.specs.hv_table_reader.specs.hv_acts.specs.hv_telling.specs.Telling.{IsToldHouse}
+use Rattle.hv_beginning.specs.hv_steps.specs.hv_table_reader.specs.hv_acts.specs.Meant.{IsChangeDue, IsMakeMeant}
+use Rattle.hv_beginning.specs.hv_steps.specs.hv_table_reader.specs.hv_acts.proofs.Steps.{book-is}
+use Rattle.hv_beginning.specs.hv_steps.specs.hv_table_reader.specs.hv_acts.proofs.Truths.{asked-other, asked-here}
+use Rattle.hv_beginning.specs.hv_steps.specs.declared.ready.Way.{Way}
+use Rattle.hv_beginning.specs.hv_steps.specs.declared.ready.Ready.{Ready}
+use Rattle.hv_beginning.specs.hv_steps.specs.declared.ready.End.{End}
+use Rattle.hv_beginning.specs.hv_steps.specs.declared.ready.End.TheVariants as end
+use Rattle.hv_beginning.specs.hv_steps.specs.declared.reply.Prepared.TheVariants as prepared
+use Rattle.hv_beginning.specs.hv_steps.specs.Ending.{EndCanBeNoted, EndIsTrue, IsReadyToEnd, IsTrulyReady, CanEnd, idle_end}
+use Rattle.hv_beginning.specs.hv_steps.specs.Going.{faults_in, Gains}
+use Rattle.hv_beginning.specs.hv_steps.specs.Phases.{Prepares, PreparesTo, PreparesAsked, IsDueSo, CanConclude}
+use Rattle.hv_beginning.specs.hv_steps.specs.Requests.{IsAskIn}
 use Rattle.hv_session.specs.Alone.{AddsNothing, HasGained, IsPreparedAlone, on_its_way}
 use Rattle.hv_session.specs.Ways.{AddsInOrder}
-use Rattle.hv_steps.proofs.Shorts.{short_idle}
-use Rattle.hv_steps.proofs.Standing.{means-still}
-use Rattle.hv_steps.proofs.Touched.{nothing-touched}
+use Rattle.hv_beginning.specs.hv_steps.proofs.Shorts.{short_idle}
+use Rattle.hv_beginning.specs.hv_steps.proofs.Standing.{means-still}
+use Rattle.hv_beginning.specs.hv_steps.proofs.Touched.{nothing-touched}
 use Rattle.hv_session.proofs.Orders.{prepared-in-order}
 use Rattle.hv_session.proofs.Takings.{never-ended}
 use Rattle.hv_session.proofs.AloneAsks.{AsksStand, asks-stand}

@@ -27,36 +27,36 @@ use Rattle.hv_trail.specs.declared.trail.TrailItem.{TrailItem}
 use Rattle.hv_trail.specs.Trail.{book_of, state_at}
 use Rattle.hv_trail.specs.Steps.{Note, MayEnd}
 use Rattle.hv_actor.specs.Acting.{IsLater, AreRows, among, known, Held}
-use Rattle.hv_steps.specs.hv_table_reader.specs.hv_acts.specs.hv_telling.specs.hv_house.specs.declared.fault.HouseFault.{HouseFault}
-use Rattle.hv_steps.specs.hv_table_reader.specs.hv_acts.specs.hv_telling.specs.hv_house.specs.declared.fault.HouseFault.TheVariants as fault
-use Rattle.hv_steps.specs.hv_table_reader.specs.hv_acts.specs.declared.told.ToldHouse.{ToldHouse}
-use Rattle.hv_steps.specs.hv_table_reader.specs.hv_acts.specs.declared.aborted.Aborted.{Aborted}
-use Rattle.hv_steps.specs.hv_table_reader.specs.hv_acts.specs.declared.committing.Committed.{Committed}
-use Rattle.hv_steps.specs.hv_table_reader.specs.hv_acts.specs.declared.committing.Committed.TheVariants as committed
-use Rattle.hv_steps.specs.hv_table_reader.specs.hv_acts.specs.declared.fault.ActFault.{ActFault}
-use Rattle.hv_steps.specs.hv_table_reader.specs.hv_acts.specs.declared.fault.ActFault.TheVariants as act
-use Rattle.hv_steps.specs.hv_table_reader.specs.hv_acts.specs.declared.making.Made.{Made}
-use Rattle.hv_steps.specs.hv_table_reader.specs.hv_acts.specs.Told.{IsWholeOrClosed, seen_in, trail_in, book_in, told_sight}
-use Rattle.hv_steps.specs.hv_table_reader.specs.hv_acts.specs.Answers.{NoTest, FilesTest, Answers, AnswerLeaves, EntryFits, answer_call, answer_outcome, next_table}
-use Rattle.hv_steps.specs.hv_table_reader.specs.hv_acts.specs.Committing.{call_to_commit, adds_commit, CommitAnswers, HasConflicted}
-use Rattle.hv_steps.specs.hv_table_reader.specs.hv_acts.specs.Making.{MakeFits, IsMadeAt}
-use Rattle.hv_steps.specs.hv_table_reader.specs.hv_acts.specs.Dropping.{CanDrop, IsDroppedAt}
-use Rattle.hv_steps.specs.hv_table_reader.specs.hv_acts.specs.Meant.{HasMeant, IsCommitDue}
-use Rattle.hv_steps.specs.hv_table_reader.specs.hv_acts.proofs.Steps.{book-is}
-use Rattle.hv_steps.specs.hv_table_reader.specs.hv_acts.proofs.Meant.{on-way}
-use Rattle.hv_steps.specs.Ending.{KeepsCount, committing, creating, dropping, aborting, HasReplied}
-use Rattle.hv_steps.specs.declared.ready.Ready.{Ready}
-use Rattle.hv_steps.specs.declared.ready.End.TheVariants as last
-use Rattle.hv_steps.proofs.Replied.{commit-replies, abort-replies}
-use Rattle.hv_steps.proofs.Touched.{touch-of-table}
-use Rattle.hv_steps.specs.declared.reply.Done.{Done}
-use Rattle.hv_steps.specs.declared.reply.Done.TheVariants as done
+use Rattle.hv_beginning.specs.hv_steps.specs.hv_table_reader.specs.hv_acts.specs.hv_telling.specs.hv_house.specs.declared.fault.HouseFault.{HouseFault}
+use Rattle.hv_beginning.specs.hv_steps.specs.hv_table_reader.specs.hv_acts.specs.hv_telling.specs.hv_house.specs.declared.fault.HouseFault.TheVariants as fault
+use Rattle.hv_beginning.specs.hv_steps.specs.hv_table_reader.specs.hv_acts.specs.declared.told.ToldHouse.{ToldHouse}
+use Rattle.hv_beginning.specs.hv_steps.specs.hv_table_reader.specs.hv_acts.specs.declared.aborted.Aborted.{Aborted}
+use Rattle.hv_beginning.specs.hv_steps.specs.hv_table_reader.specs.hv_acts.specs.declared.committing.Committed.{Committed}
+use Rattle.hv_beginning.specs.hv_steps.specs.hv_table_reader.specs.hv_acts.specs.declared.committing.Committed.TheVariants as committed
+use Rattle.hv_beginning.specs.hv_steps.specs.hv_table_reader.specs.hv_acts.specs.declared.fault.ActFault.{ActFault}
+use Rattle.hv_beginning.specs.hv_steps.specs.hv_table_reader.specs.hv_acts.specs.declared.fault.ActFault.TheVariants as act
+use Rattle.hv_beginning.specs.hv_steps.specs.hv_table_reader.specs.hv_acts.specs.declared.making.Made.{Made}
+use Rattle.hv_beginning.specs.hv_steps.specs.hv_table_reader.specs.hv_acts.specs.Told.{IsWholeOrClosed, seen_in, trail_in, book_in, told_sight}
+use Rattle.hv_beginning.specs.hv_steps.specs.hv_table_reader.specs.hv_acts.specs.Answers.{NoTest, FilesTest, Answers, AnswerLeaves, EntryFits, answer_call, answer_outcome, next_table}
+use Rattle.hv_beginning.specs.hv_steps.specs.hv_table_reader.specs.hv_acts.specs.Committing.{call_to_commit, adds_commit, CommitAnswers, HasConflicted}
+use Rattle.hv_beginning.specs.hv_steps.specs.hv_table_reader.specs.hv_acts.specs.Making.{MakeFits, IsMadeAt}
+use Rattle.hv_beginning.specs.hv_steps.specs.hv_table_reader.specs.hv_acts.specs.Dropping.{CanDrop, IsDroppedAt}
+use Rattle.hv_beginning.specs.hv_steps.specs.hv_table_reader.specs.hv_acts.specs.Meant.{HasMeant, IsCommitDue}
+use Rattle.hv_beginning.specs.hv_steps.specs.hv_table_reader.specs.hv_acts.proofs.Steps.{book-is}
+use Rattle.hv_beginning.specs.hv_steps.specs.hv_table_reader.specs.hv_acts.proofs.Meant.{on-way}
+use Rattle.hv_beginning.specs.hv_steps.specs.Ending.{KeepsCount, committing, creating, dropping, aborting, HasReplied}
+use Rattle.hv_beginning.specs.hv_steps.specs.declared.ready.Ready.{Ready}
+use Rattle.hv_beginning.specs.hv_steps.specs.declared.ready.End.TheVariants as last
+use Rattle.hv_beginning.specs.hv_steps.proofs.Replied.{commit-replies, abort-replies}
+use Rattle.hv_beginning.specs.hv_steps.proofs.Touched.{touch-of-table}
+use Rattle.hv_beginning.specs.hv_steps.specs.declared.reply.Done.{Done}
+use Rattle.hv_beginning.specs.hv_steps.specs.declared.reply.Done.TheVariants as done
 use Rattle.hv_session.specs.Ends.{commit_adds, IsCommitEnd, IsCommitAnswered, committed_reply, create_adds, drop_adds}
-use Rattle.hv_steps.specs.Going.{faults_in, IsOpenHouse, AddsOwn, Goes}
-use Rattle.hv_steps.specs.Leaving.{EndsAct}
-use Rattle.hv_steps.specs.Phases.{IsDueSo, NoCause, AbortsFor, Concludes, AnswersTruly}
-use Rattle.hv_steps.proofs.Joining.{front-more, NamesEnd, why-names, goes-on, held-front}
-use Rattle.hv_steps.proofs.Ends.{open-here, replied-now, ended-now, create-replies, drop-replies}
+use Rattle.hv_beginning.specs.hv_steps.specs.Going.{faults_in, IsOpenHouse, AddsOwn, Goes}
+use Rattle.hv_beginning.specs.hv_steps.specs.Leaving.{EndsAct}
+use Rattle.hv_beginning.specs.hv_steps.specs.Phases.{IsDueSo, NoCause, AbortsFor, Concludes, AnswersTruly}
+use Rattle.hv_beginning.specs.hv_steps.proofs.Joining.{front-more, NamesEnd, why-names, goes-on, held-front}
+use Rattle.hv_beginning.specs.hv_steps.proofs.Ends.{open-here, replied-now, ended-now, create-replies, drop-replies}
 
 -- ---- what it means
 

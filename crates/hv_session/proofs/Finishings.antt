@@ -18,26 +18,26 @@ use Rattle.hv_meta.specs.States.{state_by, transaction_state}
 use Rattle.hv_trail.specs.declared.trail.TrailItem.{TrailItem}
 use Rattle.hv_trail.specs.Trail.{book_of}
 use Rattle.hv_actor.specs.Acting.{AreRows, among, known}
-use Rattle.hv_steps.specs.hv_table_reader.specs.hv_acts.specs.hv_telling.specs.hv_house.specs.declared.fault.HouseFault.{HouseFault}
-use Rattle.hv_steps.specs.hv_table_reader.specs.hv_acts.specs.hv_telling.specs.hv_house.specs.House.{entries_of}
-use Rattle.hv_steps.specs.hv_table_reader.specs.hv_acts.specs.hv_telling.specs.Telling.{IsToldHouse}
-use Rattle.hv_steps.specs.hv_table_reader.specs.hv_acts.specs.declared.told.ToldHouse.{ToldHouse}
-use Rattle.hv_steps.specs.hv_table_reader.specs.hv_acts.specs.Told.{IsWholeOrClosed, trail_in}
-use Rattle.hv_steps.specs.hv_table_reader.specs.hv_acts.specs.Answers.{HasNotEnded}
-use Rattle.hv_steps.specs.hv_table_reader.specs.hv_acts.specs.Ending.{cause_at, cause_of_entry, told_so, told_at}
-use Rattle.hv_steps.specs.hv_table_reader.specs.hv_acts.proofs.Steps.{book-is}
-use Rattle.hv_steps.specs.declared.ready.Reply.{Reply}
-use Rattle.hv_steps.specs.declared.reply.Done.{Done}
-use Rattle.hv_steps.specs.declared.reply.Done.TheVariants as done
-use Rattle.hv_steps.specs.Ending.{asking_for, HasReplied}
-use Rattle.hv_steps.specs.Going.{faults_in, IsOpenHouse, AddsOwn, HaltsFor, Goes, IsGone, IsGoneSo, SaysEnd, end_reply}
-use Rattle.hv_steps.specs.Phases.{AnswersTruly}
+use Rattle.hv_beginning.specs.hv_steps.specs.hv_table_reader.specs.hv_acts.specs.hv_telling.specs.hv_house.specs.declared.fault.HouseFault.{HouseFault}
+use Rattle.hv_beginning.specs.hv_steps.specs.hv_table_reader.specs.hv_acts.specs.hv_telling.specs.hv_house.specs.House.{entries_of}
+use Rattle.hv_beginning.specs.hv_steps.specs.hv_table_reader.specs.hv_acts.specs.hv_telling.specs.Telling.{IsToldHouse}
+use Rattle.hv_beginning.specs.hv_steps.specs.hv_table_reader.specs.hv_acts.specs.declared.told.ToldHouse.{ToldHouse}
+use Rattle.hv_beginning.specs.hv_steps.specs.hv_table_reader.specs.hv_acts.specs.Told.{IsWholeOrClosed, trail_in}
+use Rattle.hv_beginning.specs.hv_steps.specs.hv_table_reader.specs.hv_acts.specs.Answers.{HasNotEnded}
+use Rattle.hv_beginning.specs.hv_steps.specs.hv_table_reader.specs.hv_acts.specs.Ending.{cause_at, cause_of_entry, told_so, told_at}
+use Rattle.hv_beginning.specs.hv_steps.specs.hv_table_reader.specs.hv_acts.proofs.Steps.{book-is}
+use Rattle.hv_beginning.specs.hv_steps.specs.declared.ready.Reply.{Reply}
+use Rattle.hv_beginning.specs.hv_steps.specs.declared.reply.Done.{Done}
+use Rattle.hv_beginning.specs.hv_steps.specs.declared.reply.Done.TheVariants as done
+use Rattle.hv_beginning.specs.hv_steps.specs.Ending.{asking_for, HasReplied}
+use Rattle.hv_beginning.specs.hv_steps.specs.Going.{faults_in, IsOpenHouse, AddsOwn, HaltsFor, Goes, IsGone, IsGoneSo, SaysEnd, end_reply}
+use Rattle.hv_beginning.specs.hv_steps.specs.Phases.{AnswersTruly}
 use Rattle.hv_session.specs.declared.paused.Paused.{Paused}
 use Rattle.hv_session.specs.Doing.{Finishes, FinishesSo, RepliesTruly, replied_of}
 use Rattle.hv_session.specs.Taking.{IsHeldBySome, IsTrulyHeld, WasStopped}
 use Rattle.hv_session.specs.Ways.{ActsAlone, IsFinishedAs, IsFinishedSo, FinishesAlone}
 use Rattle.hv_session.specs.Alone.{HasGained}
-use Rattle.hv_steps.proofs.Joining.{adds-none, halts-none, goes-on, told-later}
+use Rattle.hv_beginning.specs.hv_steps.proofs.Joining.{adds-none, halts-none, goes-on, told-later}
 use Rattle.hv_session.proofs.AloneBooks.{adds-alone}
 use Rattle.hv_session.proofs.AloneStops.{parts-alone}
 

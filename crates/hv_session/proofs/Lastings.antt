@@ -10,7 +10,7 @@ use Rattle.hv_ast.specs.declared.statement.Stmt.{Stmt}
 use Rattle.hv_logic.specs.declared.catalog.TableInfo.{TableInfo}
 use Rattle.hv_logic.specs.declared.effect.Effect.{Effect}
 use Rattle.hv_logic.specs.declared.meaning.Meaning.{Meaning}
-use Rattle.hv_logic.specs.declared.meaning.Meaning.TheVariants.{Listing, Change, Make, Unmake, Refused, Twice, RowLimit, PartitionLimit, Plain}
+use Rattle.hv_logic.specs.declared.meaning.Meaning.TheVariants.{Listing, Change, Make, Unmake, Refused, Twice, RowLimit, PartitionLimit, Plain, Ask}
 use Rattle.hv_history.specs.declared.entry.Entry.{Entry}
 use Rattle.hv_history.specs.declared.state.Table.{Table}
 use Rattle.hv_history.specs.State.{state_of, numbered}
@@ -19,23 +19,23 @@ use Rattle.hv_stands.specs.Running.{Asking, meant}
 use Rattle.hv_trail.specs.Trail.{book_of}
 use Rattle.hv_trail.proofs.LastingLaws.{goes-on-front}
 use Rattle.hv_actor.specs.Acting.{IsLater}
-use Rattle.hv_steps.specs.hv_table_reader.specs.hv_acts.specs.hv_telling.specs.Telling.{IsTold, IsToldHouse}
-use Rattle.hv_steps.specs.hv_table_reader.specs.hv_acts.specs.declared.told.ToldHouse.{ToldHouse}
-use Rattle.hv_steps.specs.hv_table_reader.specs.hv_acts.specs.Told.{seen_in, trail_in, book_in}
-use Rattle.hv_steps.specs.hv_table_reader.specs.hv_acts.proofs.Lasting.{put-lasts, make-lasts, drop-lasts}
-use Rattle.hv_steps.specs.hv_table_reader.specs.hv_acts.proofs.Passed.{asked-lasts}
-use Rattle.hv_steps.specs.Ending.{CanChange, CanEnd}
-use Rattle.hv_steps.specs.declared.ready.Way.{Way}
-use Rattle.hv_steps.specs.declared.ready.End.{End}
-use Rattle.hv_steps.specs.declared.ready.End.TheVariants as end
+use Rattle.hv_beginning.specs.hv_steps.specs.hv_table_reader.specs.hv_acts.specs.hv_telling.specs.Telling.{IsTold, IsToldHouse}
+use Rattle.hv_beginning.specs.hv_steps.specs.hv_table_reader.specs.hv_acts.specs.declared.told.ToldHouse.{ToldHouse}
+use Rattle.hv_beginning.specs.hv_steps.specs.hv_table_reader.specs.hv_acts.specs.Told.{seen_in, trail_in, book_in}
+use Rattle.hv_beginning.specs.hv_steps.specs.hv_table_reader.specs.hv_acts.proofs.Lasting.{put-lasts, make-lasts, drop-lasts}
+use Rattle.hv_beginning.specs.hv_steps.specs.hv_table_reader.specs.hv_acts.proofs.Passed.{asked-lasts}
+use Rattle.hv_beginning.specs.hv_steps.specs.Ending.{CanChange, CanEnd}
+use Rattle.hv_beginning.specs.hv_steps.specs.declared.ready.Way.{Way}
+use Rattle.hv_beginning.specs.hv_steps.specs.declared.ready.End.{End}
+use Rattle.hv_beginning.specs.hv_steps.specs.declared.ready.End.TheVariants as end
 use Rattle.hv_session.specs.declared.paused.Point.{Point}
 use Rattle.hv_session.specs.declared.paused.Point.TheVariants as point
 use Rattle.hv_session.specs.declared.paused.Paused.{Paused}
-use Rattle.hv_steps.specs.Going.{WasOnWay}
-use Rattle.hv_steps.specs.Phases.{ComesTo, IsDueSo, CanConclude}
+use Rattle.hv_beginning.specs.hv_steps.specs.Going.{WasOnWay}
+use Rattle.hv_beginning.specs.hv_steps.specs.Phases.{ComesTo, IsDueSo, CanConclude}
 use Rattle.hv_session.specs.Doing.{CanGoOn, CanFinish}
-use Rattle.hv_steps.proofs.Joining.{book-front, front-more, way-lasts, opened-lasts}
-use Rattle.hv_steps.proofs.Ids.{meant-lasts}
+use Rattle.hv_beginning.specs.hv_steps.proofs.Joining.{book-front, front-more, way-lasts, opened-lasts}
+use Rattle.hv_beginning.specs.hv_steps.proofs.Ids.{meant-lasts}
 
 module _ {D : Type 0} (told : D → Option Store) (before now : ToldHouse D) (front : IsFront (trail_in before) (trail_in now))
     (earlier : IsToldHouse told now.house → IsToldHouse told before.house) where
@@ -61,6 +61,7 @@ module _ {D : Type 0} (told : D → Option Store) (before now : ToldHouse D) (fr
   end-lasts RowLimit can = tt
   end-lasts PartitionLimit can = tt
   end-lasts Plain can = tt
+  end-lasts (Ask asked region kind) can = can
 
   -- its snapshot stands in the front
   early : (asking : Asking) (way : Way) (said : Stmt) → WasOnWay (trail_in before) asking way said → way.place ≤ length (book_in before)

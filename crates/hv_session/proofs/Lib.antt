@@ -12,10 +12,9 @@ pub mod AloneReady
 pub mod AloneStops
 pub mod Commits
 pub mod Finishings
+pub mod JobsAsked
 pub mod Lastings
-pub mod Openings
 pub mod Orders
 pub mod Passing
 pub mod Statements
 pub mod Takings
-pub mod Waits

@@ -14,7 +14,7 @@ use Rattle.hv_ast.specs.declared.statement.Stmt.{Stmt}
 use Rattle.hv_grammar.specs.Texts.{tree_of}
 use Rattle.hv_logic.specs.Names.{names_in}
 use Rattle.hv_logic.specs.declared.meaning.Meaning.{Meaning}
-use Rattle.hv_logic.specs.declared.meaning.Meaning.TheVariants.{Refused, Listing, Change, Make, Unmake, Plain, Twice, RowLimit, PartitionLimit}
+use Rattle.hv_logic.specs.declared.meaning.Meaning.TheVariants.{Refused, Listing, Change, Make, Unmake, Plain, Ask, Twice, RowLimit, PartitionLimit}
 use Rattle.hv_history.specs.declared.entry.Entry.{Entry}
 use Rattle.hv_history.specs.declared.entry.Entry.TheVariants as entry
 use Rattle.hv_history.specs.declared.entry.Cause.{Cause}
@@ -30,16 +30,17 @@ use Rattle.hv_stands.proofs.Behind.{one-behind}
 use Rattle.hv_law_next.specs.Next.{needs_id}
 use Rattle.hv_law_next.specs.Order.{IsOfTable, AsksForId, CauseInOrder, IsInOrder, AllInOrder}
 use Rattle.hv_law_next.specs.Carrying.{IsUnrefused as IsUnrefusedMeaning, IsToCommit, IsAtHold}
-use Rattle.hv_steps.specs.declared.ready.End.{End}
-use Rattle.hv_steps.specs.declared.ready.End.TheVariants as end
-use Rattle.hv_steps.specs.Ending.{aborting, giving, IsOneEnd, EndsUncommitted, AddsNoneOrId, AddsAbort, IsOfRows, IsAskedBy, AddsAsked, IsChangeReady, EndIsTrue}
-use Rattle.hv_steps.specs.hv_table_reader.specs.hv_acts.specs.Meant.{IsNoEnd}
-use Rattle.hv_steps.proofs.Touched.{some-touched}
+use Rattle.hv_beginning.specs.hv_steps.specs.declared.ready.End.{End}
+use Rattle.hv_beginning.specs.hv_steps.specs.declared.ready.End.TheVariants as end
+use Rattle.hv_beginning.specs.hv_steps.specs.Ending.{aborting, giving, IsOneEnd, EndsUncommitted, AddsNoneOrOne, AddsAbort, IsOfRows, IsAskedBy, AddsAsked, IsChangeReady, EndIsTrue}
+use Rattle.hv_beginning.specs.hv_steps.specs.hv_table_reader.specs.hv_acts.specs.Meant.{IsNoEnd}
+use Rattle.hv_beginning.specs.hv_steps.proofs.Touched.{some-touched}
 use Rattle.hv_session.specs.declared.paused.Point.{Point}
 use Rattle.hv_session.specs.declared.paused.Point.TheVariants as point
 use Rattle.hv_session.specs.Doing.{IsUnrefused}
 use Rattle.hv_session.specs.Taking.{EndsEarly, WaitsUnrefused, IsAtPlace, PointIsTrue}
-use Rattle.hv_steps.proofs.Books.{state-behind}
+use Rattle.hv_beginning.specs.hv_steps.proofs.Books.{state-behind}
+use Rattle.hv_session.proofs.JobsAsked.{job-under}
 
 -- ---- entries behind others
 
@@ -112,18 +113,24 @@ module _ (book : List Entry) (asking : Asking) (txn place : ℕ) (said : Stmt) (
       let asks = asks-as-meant table (meant (take place book) said) found means rows in
       of-it (state_of book) txn _ under.here refl (AsksForId table) (record { needs = asks.0; of_table = asks.1 })
 
-  id-in-order : (added : List Entry) → AddsNoneOrId txn added → AllByRecursion (IsAskedBy found) added → AllInOrder (state_of book) added
+  id-in-order : (added : List Entry) → AddsNoneOrOne txn added → AllByRecursion (IsAskedBy found) added → AllInOrder (state_of book) added
   id-in-order added (inl none) asks = subst (AllInOrder (state_of book)) (sym none) tt
-  id-in-order added (inr id) asks =
+  id-in-order added (inr (inr job)) asks = subst (AllInOrder (state_of book)) (sym job.4) (tt, tt)
+  id-in-order added (inr (inl id)) asks =
       subst (AllInOrder (state_of book)) (sym id.2) (given-in-order id.0 id.1 (subst (AllByRecursion (IsAskedBy found)) id.2 asks).0, tt)
 
-  still-under : (added : List Entry) → AddsNoneOrId txn added → (given : List (ℕ × ℕ)) × IsUnderWay (book ++ added) asking txn place said given
+  still-under : (added : List Entry) → AddsNoneOrOne txn added → (given : List (ℕ × ℕ)) × IsUnderWay (book ++ added) asking txn place said given
   still-under added (inl none) = (
     [],
     subst (λ (es : List Entry). IsUnderWay (book ++ es) asking txn place said []) (sym none)
         (subst (λ (b : List Entry). IsUnderWay b asking txn place said []) (sym (append-nil book)) under),
   )
-  still-under added (inr id) = (
+  still-under added (inr (inr job)) = (
+    [],
+    subst (λ (es : List Entry). IsUnderWay (book ++ es) asking txn place said []) (sym job.4)
+        (job-under book asking txn place said job.0 job.1 job.2 job.3 under),
+  )
+  still-under added (inr (inl id)) = (
     (id.0.0, id.1.0) ∷ [],
     subst (λ (es : List Entry). IsUnderWay (book ++ es) asking txn place said ((id.0.0, id.1.0) ∷ [])) (sym id.2)
         (ids-given book asking txn place said [] id.0 id.1 under),
@@ -134,7 +141,7 @@ module _ (book : List Entry) (asking : Asking) (txn place : ℕ) (said : Stmt) (
       subst (AllByRecursion (IsAskedBy found)) (append_cancel_left book asks.added added (sym asks.book ∙ is)) asks.asked
 
   -- while it is prepared
-  pub prepared-in-order : (now added : List Entry) → now ≡ book ++ added → AddsAsked found book now → AddsNoneOrId txn added → AllInOrder (state_of book) added
+  pub prepared-in-order : (now added : List Entry) → now ≡ book ++ added → AddsAsked found book now → AddsNoneOrOne txn added → AllInOrder (state_of book) added
   prepared-in-order now added is asks shape = id-in-order added shape (asked-so now added is asks)
 
   -- and where it ends there
@@ -166,6 +173,7 @@ touches-nothing (Some RowLimit) are = absurd are
 touches-nothing (Some PartitionLimit) are = absurd are
 touches-nothing (Some (Listing names rows)) are = tt
 touches-nothing (Some Plain) are = tt
+touches-nothing (Some (Ask asked region kind)) are = tt
 touches-nothing None are = tt
 
 makes-table : (o : Option Meaning) → IsMake o → IsToCommit [] o
@@ -197,6 +205,7 @@ needs-no-id [] (Some RowLimit) to_commit = refl
 needs-no-id [] (Some PartitionLimit) to_commit = refl
 needs-no-id [] (Some (Listing names rows)) to_commit = refl
 needs-no-id [] (Some Plain) to_commit = refl
+needs-no-id [] (Some (Ask asked region kind)) to_commit = refl
 needs-no-id [] None to_commit = refl
 
 -- ---- at its hold

@@ -6,21 +6,21 @@ use Rattle.hv_base.specs.Faults.{Rose}
 use Rattle.hv_shelf.specs.Disk.{Store}
 use Rattle.hv_history.specs.declared.entry.Entry.{Entry}
 use Rattle.hv_history.specs.State.{State, state_of}
-use Rattle.hv_history.specs.Legal.{IsLegalFrom, profile}
+use Rattle.hv_history.specs.Legal.{AllFit, IsLegalFrom, profile}
 use Rattle.hv_stands.specs.Running.{Asking, next_number, IsOf, AreOf}
 use Rattle.hv_stands.specs.Statements.{AllFitting}
-use Rattle.hv_steps.specs.hv_table_reader.specs.hv_acts.specs.hv_telling.specs.hv_house.specs.declared.fault.HouseFault.{HouseFault}
-use Rattle.hv_steps.specs.hv_table_reader.specs.hv_acts.specs.hv_telling.specs.hv_house.specs.declared.fault.HouseFault.TheVariants as fault
-use Rattle.hv_steps.specs.hv_table_reader.specs.hv_acts.specs.hv_telling.specs.hv_house.specs.declared.house.House.{House}
-use Rattle.hv_steps.specs.hv_table_reader.specs.hv_acts.specs.hv_telling.specs.hv_house.specs.Faults.{FileCause, HasRisen}
-use Rattle.hv_steps.specs.hv_table_reader.specs.hv_acts.specs.hv_telling.specs.hv_house.specs.House.{entries_of}
-use Rattle.hv_steps.specs.hv_table_reader.specs.hv_acts.specs.hv_telling.specs.Telling.{IsWhole}
-use Rattle.hv_steps.specs.hv_table_reader.specs.hv_acts.specs.hv_telling.proofs.Told.{told-stays}
-use Rattle.hv_steps.specs.Ending.{KeepsCount, HasStopped}
-use Rattle.hv_steps.specs.hv_table_reader.specs.hv_acts.specs.Meant.{IsNoEnd}
+use Rattle.hv_beginning.specs.hv_steps.specs.hv_table_reader.specs.hv_acts.specs.hv_telling.specs.hv_house.specs.declared.fault.HouseFault.{HouseFault}
+use Rattle.hv_beginning.specs.hv_steps.specs.hv_table_reader.specs.hv_acts.specs.hv_telling.specs.hv_house.specs.declared.fault.HouseFault.TheVariants as fault
+use Rattle.hv_beginning.specs.hv_steps.specs.hv_table_reader.specs.hv_acts.specs.hv_telling.specs.hv_house.specs.declared.house.House.{House}
+use Rattle.hv_beginning.specs.hv_steps.specs.hv_table_reader.specs.hv_acts.specs.hv_telling.specs.hv_house.specs.Faults.{FileCause, HasRisen}
+use Rattle.hv_beginning.specs.hv_steps.specs.hv_table_reader.specs.hv_acts.specs.hv_telling.specs.hv_house.specs.House.{entries_of}
+use Rattle.hv_beginning.specs.hv_steps.specs.hv_table_reader.specs.hv_acts.specs.hv_telling.specs.Telling.{IsWhole}
+use Rattle.hv_beginning.specs.hv_steps.specs.hv_table_reader.specs.hv_acts.specs.hv_telling.proofs.Told.{told-stays}
+use Rattle.hv_beginning.specs.hv_steps.specs.Ending.{KeepsCount, HasStopped}
+use Rattle.hv_beginning.specs.hv_steps.specs.hv_table_reader.specs.hv_acts.specs.Meant.{IsNoEnd}
 use Rattle.hv_session.specs.Ways.{IsDone, IsPart, IsTaking}
-use Rattle.hv_steps.proofs.Books.{all-append, all-map, IsBegun, begun-counts, begun-unended, begun-legal, counts-from, legal-from, state-behind}
-use Rattle.hv_steps.specs.Phases.{BegunBy}
+use Rattle.hv_beginning.specs.hv_steps.proofs.Books.{all-append, all-map, IsBegun, begun-counts, begun-unended, begun-legal, counts-from, fit-from, legal-from, state-behind}
+use Rattle.hv_beginning.specs.hv_steps.specs.Phases.{BegunBy}
 
 -- ---- counts of faults
 
@@ -75,8 +75,11 @@ module _ {D : Type 0} (told : D → Option Store) (faults : D → ℕ) (txn : �
     added = passed.added ++ stopped.added;
     book = book-behind stopped.added stopped.book;
     of_it = all-append (IsOf txn) passed.added stopped.added passed.of_it stopped.of_it;
-    legal = legal-from (state_of (entries_of before)) passed.added stopped.added (begun-legal (entries_of before) passed.added fits-behind passed.begun)
-        (subst (λ (s : State). IsLegalFrom profile s stopped.added) (ap state_of passed.book ∙ state-behind (entries_of before) passed.added) stopped.legal);
+    fits = fit-from (state_of (entries_of before)) passed.added stopped.added (begun-legal (entries_of before) passed.added fits-behind passed.begun).fit
+        (subst (λ (s : State). AllFit profile s stopped.added) (ap state_of passed.book ∙ state-behind (entries_of before) passed.added) stopped.fits);
+    legal = λ is. legal-from (state_of (entries_of before)) passed.added stopped.added (begun-legal (entries_of before) passed.added fits-behind passed.begun)
+        (subst (λ (s : State). IsLegalFrom profile s stopped.added) (ap state_of passed.book ∙ state-behind (entries_of before) passed.added)
+        (stopped.legal (told-stays told before between passed.start is)));
     unended = all-append (IsNoEnd txn) passed.added stopped.added (all-map IsBegun (IsNoEnd txn) (begun-unended txn) passed.added passed.begun) stopped.unended;
     further = stopped.further;
     further_of_it = stopped.further_of_it;

@@ -1,6 +1,6 @@
 -- A statement that is taken up by its text: one that was carried, and one that was never opened.
 use Rattle.std.proofs.Common.{◌≡◌, ◌⊎◌, inl, inr, ℕ, ◌≤◌, Option, None, List, [], refl, sym, ap, ◌∙◌, subst, append-nil, arith, Ok, Err, Result}
-use Rattle.std.specs.Prelude.{IfErr, IsErrAnd}
+use Rattle.std.specs.Prelude.{IfOk, IfErr, IsErrAnd}
 use Rattle.hv_base.specs.declared.gate.Stage.{Stage}
 use Rattle.hv_shelf.specs.Disk.{Store}
 use Rattle.hv_ast.specs.declared.statement.Stmt.{Stmt}
@@ -11,29 +11,30 @@ use Rattle.hv_history.specs.Answers.{cause_text}
 use Rattle.hv_stands.specs.Running.{Asking, next_number}
 use Rattle.hv_trail.specs.declared.trail.TrailItem.{TrailItem}
 use Rattle.hv_actor.specs.Acting.{AreRows, among, known}
-use Rattle.hv_steps.specs.hv_table_reader.specs.hv_acts.specs.hv_telling.specs.hv_house.specs.declared.fault.HouseFault.{HouseFault}
-use Rattle.hv_steps.specs.hv_table_reader.specs.hv_acts.specs.hv_telling.specs.hv_house.specs.declared.fault.HouseFault.TheVariants as fault
-use Rattle.hv_steps.specs.hv_table_reader.specs.hv_acts.specs.hv_telling.specs.hv_house.specs.declared.house.House.{House}
-use Rattle.hv_steps.specs.hv_table_reader.specs.hv_acts.specs.hv_telling.specs.hv_house.specs.House.{entries_of}
-use Rattle.hv_steps.specs.hv_table_reader.specs.hv_acts.specs.hv_telling.specs.Telling.{IsWhole}
-use Rattle.hv_steps.specs.hv_table_reader.specs.hv_acts.specs.hv_telling.proofs.Told.{told-stays}
-use Rattle.hv_steps.specs.hv_table_reader.specs.hv_acts.specs.hv_telling.proofs.Opens.{whole-opens}
-use Rattle.hv_steps.specs.hv_table_reader.specs.hv_acts.specs.declared.told.ToldHouse.{ToldHouse}
-use Rattle.hv_steps.specs.hv_table_reader.specs.hv_acts.specs.Told.{trail_in, book_in}
-use Rattle.hv_steps.specs.declared.ready.Reply.{Reply}
-use Rattle.hv_steps.specs.declared.reply.Done.{Done}
-use Rattle.hv_steps.specs.declared.reply.Done.TheVariants as done
+use Rattle.hv_beginning.specs.hv_steps.specs.hv_table_reader.specs.hv_acts.specs.hv_telling.specs.hv_house.specs.declared.fault.HouseFault.{HouseFault}
+use Rattle.hv_beginning.specs.hv_steps.specs.hv_table_reader.specs.hv_acts.specs.hv_telling.specs.hv_house.specs.declared.fault.HouseFault.TheVariants as fault
+use Rattle.hv_beginning.specs.hv_steps.specs.hv_table_reader.specs.hv_acts.specs.hv_telling.specs.hv_house.specs.declared.house.House.{House}
+use Rattle.hv_beginning.specs.hv_steps.specs.hv_table_reader.specs.hv_acts.specs.hv_telling.specs.hv_house.specs.House.{entries_of}
+use Rattle.hv_beginning.specs.hv_steps.specs.hv_table_reader.specs.hv_acts.specs.hv_telling.specs.Telling.{IsWhole}
+use Rattle.hv_beginning.specs.hv_steps.specs.hv_table_reader.specs.hv_acts.specs.hv_telling.proofs.Told.{told-stays}
+use Rattle.hv_beginning.specs.hv_steps.specs.hv_table_reader.specs.hv_acts.specs.hv_telling.proofs.Opens.{whole-opens}
+use Rattle.hv_beginning.specs.hv_steps.specs.hv_table_reader.specs.hv_acts.specs.declared.told.ToldHouse.{ToldHouse}
+use Rattle.hv_beginning.specs.hv_steps.specs.hv_table_reader.specs.hv_acts.specs.Told.{trail_in, book_in}
+use Rattle.hv_beginning.specs.hv_steps.specs.declared.ready.Reply.{Reply}
+use Rattle.hv_beginning.specs.hv_steps.specs.declared.reply.Done.{Done}
+use Rattle.hv_beginning.specs.hv_steps.specs.declared.reply.Done.TheVariants as done
 use Rattle.hv_session.specs.declared.paused.Carried.{Carried}
 use Rattle.hv_session.specs.declared.paused.Carried.TheVariants as carried
 use Rattle.hv_session.specs.declared.paused.Taken.{Taken}
 use Rattle.hv_session.specs.declared.paused.Taken.TheVariants as taken
 use Rattle.hv_session.specs.Lines.{IsLine, IsTextLine, IsFullLine}
-use Rattle.hv_steps.specs.Going.{faults_in, IsOpenHouse, AddsOwn, GainsSome}
-use Rattle.hv_steps.specs.Phases.{WasSoBetween, IsNextAt, HaltsBeginning}
+use Rattle.hv_beginning.specs.hv_steps.specs.Going.{faults_in, IsOpenHouse, AddsOwn, GainsSome}
+use Rattle.hv_beginning.specs.hv_steps.specs.Phases.{WasSoBetween, IsNextAt, HaltsBeginning}
 use Rattle.hv_session.specs.Doing.{reply_from, Takes, TakesText, IsSaidFor, WasNeverOpened, CanFinishSome, CanFinishTaken, up_to}
 use Rattle.hv_session.specs.Taking.{IsReplied, IsKeptIn, IsTakenAs}
 use Rattle.hv_session.specs.Ways.{IsUnopened, IsCarriedIn, IsCarriedAs, CarriesAlone, TakesAlone}
-use Rattle.hv_steps.proofs.Joining.{adds-none, gains-as}
+use Rattle.hv_beginning.specs.hv_steps.proofs.Joining.{adds-none, gains-as}
+use Rattle.hv_session.proofs.Takings.{takes-can}
 use Rattle.hv_session.proofs.Passing.{still-part, part-taking, taking-ok}
 
 -- one that has ended replies so
@@ -123,12 +124,26 @@ module _ {D : Type 0} (told : D → Option Store) (faults : D → ℕ) (B : List
       (subst (λ (added : List Entry). AddsOwn faults B gains.0 (known own before) (known own' now) added)
       (never-added asking said hold before now found gains.1.added never gains.1.is) gains.1.adds) gains.2 gains.1.running)
 
-pub said-can : {D : Type 0} (told : D → Option Store) (now : ToldHouse D) (found : Carried) (answer : Taken) → IsSaidFor found answer → CanFinishSome told now found
+said-can : {D : Type 0} (told : D → Option Store) (now : ToldHouse D) (found : Carried) (answer : Taken) → IsSaidFor found answer → CanFinishSome told now found
     → CanFinishTaken told now answer
 said-can told now (carried.Ended found) answer answers can = subst (CanFinishTaken told now) (sym answers) tt
 said-can told now (carried.Kept paused) answer answers can = subst (CanFinishTaken told now) (sym answers) can
 said-can told now (carried.Full entries) answer answers can = subst (CanFinishTaken told now) (sym answers.1) tt
 said-can told now carried.NoMemory answer answers can = subst (CanFinishTaken told now) (sym answers.1) tt
+
+text-can : {D : Type 0} (told : D → Option Store) (before now : ToldHouse D) (asking : Asking) (hold : Option Stage) (answer : Taken) (added : List Entry)
+    → TakesText told before now asking hold answer added → CanFinishTaken told now answer
+text-can told before now asking hold answer added (inl text) = subst (CanFinishTaken told now) (sym text.1.1) tt
+text-can told before now asking hold answer added (inr of) =
+    said-can told now of.1 answer of.4 (takes-can told before now asking of.0 hold of.1 added of.3)
+
+-- what is held of a text that was taken up can be finished
+pub taken-can : {D : Type 0} (told : D → Option Store) (faults : D → ℕ) (between : List TrailItem → Type 0) (low : ℕ) (own own' : List ℕ) (before now : ToldHouse D)
+    (asking : Asking) (hold : Option Stage) (result : Result Taken HouseFault)
+    → IfOk result (λ answer. GainsSome faults between low (known own before) (known own' now) (TakesText told before now asking hold answer))
+    → IfOk result (CanFinishTaken told now)
+taken-can told faults between low own own' before now asking hold (Ok answer) gains = text-can told before now asking hold answer gains.1.added gains.1.is
+taken-can told faults between low own own' before now asking hold (Err why) gains = tt
 
 -- ---- where others do nothing
 
@@ -202,7 +217,8 @@ module _ {D : Type 0} (told : D → Option Store) (faults : D → ℕ) (asking :
           added = [];
           book = same ∙ sym (append-nil (entries_of before));
           of_it = tt;
-          legal = record { fit = tt; truthful = tt };
+          fits = tt;
+          legal = λ is. record { fit = tt; truthful = tt };
           unended = tt;
           further = [];
           further_of_it = tt;

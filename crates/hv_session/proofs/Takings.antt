@@ -7,7 +7,7 @@ use Rattle.hv_base.specs.declared.gate.Stage.TheVariants as stage
 use Rattle.hv_shelf.specs.Disk.{Store}
 use Rattle.hv_ast.specs.declared.statement.Stmt.{Stmt}
 use Rattle.hv_logic.specs.declared.meaning.Meaning.{Meaning}
-use Rattle.hv_logic.specs.declared.meaning.Meaning.TheVariants.{Listing, Change, Make, Unmake, Refused, Twice, RowLimit, PartitionLimit, Plain}
+use Rattle.hv_logic.specs.declared.meaning.Meaning.TheVariants.{Listing, Change, Make, Unmake, Refused, Twice, RowLimit, PartitionLimit, Plain, Ask}
 use Rattle.hv_history.specs.declared.entry.Entry.{Entry}
 use Rattle.hv_history.specs.declared.entry.Cause.{Cause}
 use Rattle.hv_history.specs.Asking.{numbers_in}
@@ -16,32 +16,33 @@ use Rattle.hv_stands.specs.Running.{Asking, next_number, opening, adder_of, IsOf
 use Rattle.hv_trail.specs.declared.trail.TrailItem.{TrailItem}
 use Rattle.hv_trail.specs.Trail.{book_of}
 use Rattle.hv_actor.specs.Acting.{AreRows, among, known}
-use Rattle.hv_steps.specs.hv_table_reader.specs.hv_acts.specs.hv_telling.specs.hv_house.specs.declared.fault.HouseFault.{HouseFault}
-use Rattle.hv_steps.specs.hv_table_reader.specs.hv_acts.specs.hv_telling.specs.Telling.{IsToldHouse}
-use Rattle.hv_steps.specs.hv_table_reader.specs.hv_acts.specs.declared.told.ToldHouse.{ToldHouse}
-use Rattle.hv_steps.specs.hv_table_reader.specs.hv_acts.specs.Told.{trail_in}
-use Rattle.hv_steps.specs.hv_table_reader.specs.hv_acts.specs.Meant.{IsNoEnd}
-use Rattle.hv_steps.specs.declared.ready.Way.{Way}
-use Rattle.hv_steps.specs.declared.ready.Ready.{Ready}
-use Rattle.hv_steps.specs.declared.reply.Done.{Done}
-use Rattle.hv_steps.specs.declared.reply.Done.TheVariants as done
-use Rattle.hv_steps.specs.declared.reply.Opened.{Opened}
-use Rattle.hv_steps.specs.declared.reply.Opened.TheVariants as opened
-use Rattle.hv_steps.specs.declared.reply.Outcome.TheVariants as outcome
-use Rattle.hv_steps.specs.declared.reply.Prepared.TheVariants as prepared
+use Rattle.hv_beginning.specs.hv_steps.specs.hv_table_reader.specs.hv_acts.specs.hv_telling.specs.hv_house.specs.declared.fault.HouseFault.{HouseFault}
+use Rattle.hv_beginning.specs.hv_steps.specs.hv_table_reader.specs.hv_acts.specs.hv_telling.specs.Telling.{IsToldHouse}
+use Rattle.hv_beginning.specs.hv_steps.specs.hv_table_reader.specs.hv_acts.specs.declared.told.ToldHouse.{ToldHouse}
+use Rattle.hv_beginning.specs.hv_steps.specs.hv_table_reader.specs.hv_acts.specs.Told.{trail_in}
+use Rattle.hv_beginning.specs.hv_steps.specs.hv_table_reader.specs.hv_acts.specs.Meant.{IsNoEnd}
+use Rattle.hv_beginning.specs.hv_steps.specs.declared.ready.Way.{Way}
+use Rattle.hv_beginning.specs.hv_steps.specs.declared.ready.Ready.{Ready}
+use Rattle.hv_beginning.specs.hv_steps.specs.declared.reply.Done.{Done}
+use Rattle.hv_beginning.specs.hv_steps.specs.declared.reply.Done.TheVariants as done
+use Rattle.hv_beginning.specs.hv_steps.specs.declared.reply.Opened.{Opened}
+use Rattle.hv_beginning.specs.hv_steps.specs.declared.reply.Opened.TheVariants as opened
+use Rattle.hv_beginning.specs.hv_steps.specs.declared.reply.Outcome.TheVariants as outcome
+use Rattle.hv_beginning.specs.hv_steps.specs.declared.reply.Prepared.TheVariants as prepared
 use Rattle.hv_session.specs.declared.paused.Point.{Point}
 use Rattle.hv_session.specs.declared.paused.Point.TheVariants as point
 use Rattle.hv_session.specs.declared.paused.Carried.{Carried}
 use Rattle.hv_session.specs.declared.paused.Carried.TheVariants as carried
-use Rattle.hv_steps.specs.Going.{faults_in, IsOpenHouse, AddsOwn, Gains, GainsSome, Goes, WasOnWay}
-use Rattle.hv_steps.specs.Phases.{EndsBehind, AbortsFor, OpensAt, IsHinderedBefore, IsNextAt, BeginsAt, StartsAt, WasSoBetween, HasBegun, Begins, ComesTo, Prepares, PreparesAsked, PreparesTo, CanConclude, ConcludesSo, Concludes, AnswersTruly, IsUntoldDamage, Sees, BegunBy}
-use Rattle.hv_steps.specs.Requests.{IsAskIn}
+use Rattle.hv_beginning.specs.hv_steps.specs.Going.{faults_in, IsOpenHouse, AddsOwn, Gains, GainsSome, Goes, WasOnWay}
+use Rattle.hv_beginning.specs.hv_steps.specs.Phases.{EndsBehind, AbortsFor, OpensAt, IsHinderedBefore, IsNextAt, BeginsAt, StartsAt, WasSoBetween, HasBegun, Begins, ComesTo, Prepares, PreparesAsked, PreparesTo, CanConclude, ConcludesSo, Concludes, AnswersTruly, IsUntoldDamage, Sees, BegunBy}
+use Rattle.hv_beginning.specs.hv_steps.specs.Requests.{IsAskIn}
 use Rattle.hv_session.specs.Doing.{ReadiesTo, EndsFrom, EndsAs, IsUnrefused, StandsAt, CanGoOn, CanFinishSome, carried_of, is_refused, GoesOnTo, CarriedTruly, GoesToHold, Takes, GoesTaking, WasStarted, up_to}
-use Rattle.hv_steps.proofs.AsksMade.{asks-unended}
-use Rattle.hv_steps.proofs.Requests.{asks-last}
-use Rattle.hv_steps.proofs.Joining.{way-lasts, on-way-opened, adds-none, adds-front, told-later, told-earlier, gains-behind, gains-as, goes-behind, goes-on, all-more, adds-more}
+use Rattle.hv_beginning.specs.hv_steps.proofs.AsksMade.{asks-unended}
+use Rattle.hv_beginning.specs.hv_steps.proofs.Parts.{job-unended}
+use Rattle.hv_beginning.specs.hv_steps.proofs.Requests.{asks-last}
+use Rattle.hv_beginning.specs.hv_steps.proofs.Joining.{way-lasts, on-way-opened, adds-none, adds-front, told-later, told-earlier, gains-behind, gains-as, goes-behind, goes-on, all-more, adds-more}
 use Rattle.hv_session.proofs.Lastings.{comes-lasts}
-use Rattle.hv_session.proofs.Openings.{between-more, next-opened}
+use Rattle.hv_beginning.proofs.Openings.{between-more, next-opened}
 
 -- said of the same answer
 pub goes-said : {D T : Type 0} {told : D → Option Store} {faults : D → ℕ} {B : List TrailItem → Type 0} {meanwhile : ToldHouse D → ToldHouse D → Type 0} {low txn : ℕ}
@@ -57,6 +58,7 @@ goes-said {T = T} {told = told} {faults = faults} {B = B} {meanwhile = meanwhile
 pub prepares-unended : (txn : ℕ) (meaning : Meaning) (ready : Ready) (added : List Entry) → PreparesTo txn meaning ready added → AllByRecursion (IsNoEnd txn) added
 prepares-unended txn (Listing names rows) ready added is = subst (AllByRecursion (IsNoEnd txn)) (sym is.0) tt
 prepares-unended txn Plain ready added is = subst (AllByRecursion (IsNoEnd txn)) (sym is.0) tt
+prepares-unended txn (Ask table partition kind) ready added is = job-unended txn table partition kind added is.0
 prepares-unended txn (Make shape) ready added is = subst (AllByRecursion (IsNoEnd txn)) (sym is.0) tt
 prepares-unended txn (Unmake table) ready added is = subst (AllByRecursion (IsNoEnd txn)) (sym is.0) tt
 prepares-unended txn (Change info effect) ready added (inl is) = subst (AllByRecursion (IsNoEnd txn)) (sym is.0) tt
@@ -132,6 +134,15 @@ held-can told now asking way said hold (carried.Kept paused) added goes =
 held-can told now asking way said hold (carried.Full entries) added goes = absurd goes
 held-can told now asking way said hold carried.NoMemory added goes = absurd goes
 
+-- one that was taken up and is held can be finished
+pub takes-can : {D : Type 0} (told : D → Option Store) (before now : ToldHouse D) (asking : Asking) (said : Stmt) (hold : Option Stage) (found : Carried) (added : List Entry)
+    → Takes told before now asking (up_to said hold) found added → CanFinishSome told now found
+takes-can told before now asking said hold (carried.Kept paused) added (inl gone) = held-can told now asking gone.way said hold (carried.Kept paused) gone.rest gone.goes
+takes-can told before now asking said hold (carried.Kept paused) added (inr not_) = absurd not_
+takes-can told before now asking said hold (carried.Ended found) added is = tt
+takes-can told before now asking said hold (carried.Full entries) added is = tt
+takes-can told before now asking said hold carried.NoMemory added is = tt
+
 pub unrefused : (meaning : Meaning) → is_refused meaning ≡ false → IsUnrefused meaning
 unrefused (Refused why) e = let never : true ≡ false = e in cc
 unrefused (Listing names rows) e = tt
@@ -142,6 +153,7 @@ unrefused (Twice region row) e = tt
 unrefused RowLimit e = tt
 unrefused PartitionLimit e = tt
 unrefused Plain e = tt
+unrefused (Ask asked region kind) e = tt
 
 refused : (meaning : Meaning) → is_refused meaning ≡ true → IsUnrefused meaning → ⊥
 refused (Refused why) e is = is
@@ -153,6 +165,7 @@ refused (Twice region row) e is = let never : false ≡ true = e in cc
 refused RowLimit e is = let never : false ≡ true = e in cc
 refused PartitionLimit e is = let never : false ≡ true = e in cc
 refused Plain e is = let never : false ≡ true = e in cc
+refused (Ask asked region kind) e is = let never : false ≡ true = e in cc
 
 -- ---- what was opened
 
@@ -299,23 +312,12 @@ module _ {D : Type 0} (told : D → Option Store) (faults : D → ℕ) (B : List
   -- ---- to its hold
 
   -- said of one that goes to its hold
-  gone-can : (low : ℕ) (own own' : List ℕ) (a b : ToldHouse D) (asking : Asking) (way : Way) (said : Stmt) (hold : Option Stage) (result : Result Carried HouseFault)
-      → Goes (among told faults B meanwhile) low way.txn.0 (known own a) (known own' b) (GoesOnTo told b asking way (up_to said hold)) result
-      → IfOk result (CanFinishSome told b)
-  gone-can low own own' a b asking way said hold (Ok found) goes = held-can told b asking way said hold found goes.done.added goes.done.is
-  gone-can low own own' a b asking way said hold (Err why) goes = tt
-
-  goes-to : (own own' : List ℕ) (a b : ToldHouse D) (was : Asking) (way : Way) (said : Stmt) (hold : Option Stage) (result : Result Carried HouseFault)
-      → WasOnWay (trail_in a) was way said
+  goes-to : (own own' : List ℕ) (a b : ToldHouse D) (way : Way) (said : Stmt) (hold : Option Stage) (result : Result Carried HouseFault)
       → ((asking : Asking) → WasOnWay (trail_in a) asking way said
       → Goes (among told faults B meanwhile) (faults_in faults a) way.txn.0 (known own a) (known own' b) (GoesOnTo told b asking way (up_to said hold)) result)
       → (IsToldHouse told a.house → IfOk result (CarriedTruly way.txn.0 b))
       → GoesToHold (among told faults B meanwhile) way (up_to said hold) (known own a) (known own' b) result
-  goes-to own own' a b was way said hold result on goes truly = record {
-    goes = goes;
-    truly = truly;
-    can = gone-can (faults_in faults a) own own' a b was way said hold result (goes was on);
-  }
+  goes-to own own' a b way said hold result goes truly = record { goes = goes; truly = truly }
 
   -- the same behind what it saw
   pub seen-holds : (own own' own'' : List ℕ) (a b c : ToldHouse D) (way : Way) (said : Stmt) (meaning : Meaning) (hold : Option Stage) (result : Result Carried HouseFault)
@@ -330,14 +332,13 @@ module _ {D : Type 0} (told : D → Option Store) (faults : D → ℕ) (B : List
         (λ found more is. is)
         (held.goes asking (done-way way.txn.0 (faults_in faults a) own own' a b (Sees told b way said) (outcome.Means meaning) asking way said sees was));
     truly = λ is. held.truly (done-told way.txn.0 (faults_in faults a) own own' a b (Sees told b way said) (outcome.Means meaning) sees is);
-    can = held.can;
   }
 
   -- the run stopped on the way
   pub halts-holds : {T : Type 0} (own own' : List ℕ) (a b : ToldHouse D) (way : Way) (said : Stmt) (hold : Option Stage) (Is : T → List Entry → Type 0) (why : HouseFault)
       → Goes (among told faults B meanwhile) (faults_in faults a) way.txn.0 (known own a) (known own' b) Is (Err why)
       → GoesToHold (among told faults B meanwhile) way (up_to said hold) (known own a) (known own' b) (Err why)
-  halts-holds own own' a b way said hold Is why goes = record { goes = λ asking was. record { done = tt; halted = goes.halted }; truly = λ is. tt; can = tt }
+  halts-holds own own' a b way said hold Is why goes = record { goes = λ asking was. record { done = tt; halted = goes.halted }; truly = λ is. tt }
 
   -- it ended so
   ended-holds : (own own' : List ℕ) (a b : ToldHouse D) (way : Way) (said : Stmt) (hold : Option Stage) (Is : Done → List Entry → Type 0) (result : Result Done HouseFault)
@@ -353,7 +354,6 @@ module _ {D : Type 0} (told : D → Option Store) (faults : D → ℕ) (B : List
       halted = tt;
     };
     truly = truly;
-    can = tt;
   }
   ended-holds own own' a b way said hold Is (Err why) f goes truly = halts-holds own own' a b way said hold Is why goes
 
@@ -377,7 +377,7 @@ module _ {D : Type 0} (told : D → Option Store) (faults : D → ℕ) (B : List
       → GoesToHold (among told faults B meanwhile) way (up_to said (Some stage.Start)) (known own a) (known own a)
       (Ok (carried.Kept (record { way = way; tree = said; point = point.Started })))
   started-holds own a was way said on running =
-      goes-to own own a a was way said (Some stage.Start) (Ok (carried.Kept (record { way = way; tree = said; point = point.Started }))) on
+      goes-to own own a a way said (Some stage.Start) (Ok (carried.Kept (record { way = way; tree = said; point = point.Started })))
       (λ asking way_on. record {
         done = record {
           added = [];
@@ -396,7 +396,7 @@ module _ {D : Type 0} (told : D → Option Store) (faults : D → ℕ) (B : List
       → GoesToHold (among told faults B meanwhile) way (up_to said (Some stage.Read)) (known own a) (known own a)
       (Ok (carried.Kept (record { way = way; tree = said; point = point.Meant meaning })))
   meant-holds own a was way said meaning on running comes not =
-      goes-to own own a a was way said (Some stage.Read) (Ok (carried.Kept (record { way = way; tree = said; point = point.Meant meaning }))) on
+      goes-to own own a a way said (Some stage.Read) (Ok (carried.Kept (record { way = way; tree = said; point = point.Meant meaning })))
       (λ asking way_on. record {
         done = record {
           added = [];
@@ -445,7 +445,6 @@ module _ {D : Type 0} (told : D → Option Store) (faults : D → ℕ) (B : List
       halted = tt;
     };
     truly = λ is. unseen-truly (faults_in faults a) own own' a b way said found goes;
-    can = tt;
   }
 
   pub unseen-commits : (own own' : List ℕ) (a b : ToldHouse D) (way : Way) (said : Stmt) (found : Done)
@@ -459,7 +458,6 @@ module _ {D : Type 0} (told : D → Option Store) (faults : D → ℕ) (B : List
       halted = tt;
     };
     truly = λ is. unseen-truly (faults_in faults a) own own' a b way said found goes;
-    can = tt;
   }
 
   -- at its commit
@@ -471,7 +469,7 @@ module _ {D : Type 0} (told : D → Option Store) (faults : D → ℕ) (B : List
       → GoesToHold (among told faults B meanwhile) way (up_to said (Some stage.Commit)) (known own a) (known own' b)
       (Ok (carried.Kept (record { way = way; tree = said; point = point.Ready ready })))
   ready-holds own own' a b was way said meaning ready on comes goes can =
-      goes-to own own' a b was way said (Some stage.Commit) (Ok (carried.Kept (record { way = way; tree = said; point = point.Ready ready }))) on
+      goes-to own own' a b way said (Some stage.Commit) (Ok (carried.Kept (record { way = way; tree = said; point = point.Ready ready })))
       (λ asking way_on. record {
         done =
             gains-as faults B rows (faults_in faults a) way.txn.0 own own' a b (PreparesAsked way.txn.0 b (IsAskIn b way said) meaning (prepared.Ready ready))
@@ -511,7 +509,6 @@ module _ {D : Type 0} (told : D → Option Store) (faults : D → ℕ) (B : List
       halted = tt;
     };
     truly = λ is. ended-truly way.txn.0 (faults_in faults a) own own' a b (IsAskIn b way said) meaning found goes;
-    can = tt;
   }
 
   -- ---- from its opening on

@@ -9,23 +9,23 @@ use Rattle.hv_history.specs.declared.entry.Cause.{Cause}
 use Rattle.hv_history.specs.declared.entry.Cause.TheVariants as cause
 use Rattle.hv_stands.specs.Running.{Asking, meant, IsUnderWay, IsWaiting}
 use Rattle.hv_trail.specs.declared.trail.TrailItem.{TrailItem}
-use Rattle.hv_steps.specs.hv_table_reader.specs.hv_acts.specs.hv_telling.specs.hv_house.specs.declared.fault.HouseFault.{HouseFault}
-use Rattle.hv_steps.specs.hv_table_reader.specs.hv_acts.specs.hv_telling.specs.hv_house.specs.House.{entries_of}
-use Rattle.hv_steps.specs.hv_table_reader.specs.hv_acts.specs.hv_telling.specs.Telling.{IsToldHouse, IsWhole, StillOpens}
-use Rattle.hv_steps.specs.hv_table_reader.specs.hv_acts.specs.declared.told.ToldHouse.{ToldHouse}
-use Rattle.hv_steps.specs.hv_table_reader.specs.hv_acts.specs.Told.{IsWholeOrClosed}
-use Rattle.hv_steps.specs.Ending.{aborting, IsAborted, HasReplied, HasStopped, NamesLast, EndedNamesLast, AddsAsked, CanEnd, IsPreparedIn, IsTrulyPrepared}
-use Rattle.hv_steps.specs.Ending as ending
-use Rattle.hv_steps.specs.declared.ready.Reply.{Reply}
-use Rattle.hv_steps.specs.declared.ready.Ready.{Ready}
-use Rattle.hv_steps.specs.declared.ready.Way.{Way}
-use Rattle.hv_steps.specs.declared.reply.Done.{Done}
-use Rattle.hv_steps.specs.declared.reply.Done.TheVariants as done
-use Rattle.hv_steps.specs.declared.reply.Outcome.{Outcome}
-use Rattle.hv_steps.specs.declared.reply.Outcome.TheVariants as outcome
-use Rattle.hv_steps.specs.declared.reply.Prepared.{Prepared}
-use Rattle.hv_steps.specs.Going.{faults_in, IsOpenHouse, AddsOwn, Gains, Halts}
-use Rattle.hv_steps.specs.Phases.{AbortsFor, IsUntoldDamage, Sees, Concludes, Prepares, AnswersTruly}
+use Rattle.hv_beginning.specs.hv_steps.specs.hv_table_reader.specs.hv_acts.specs.hv_telling.specs.hv_house.specs.declared.fault.HouseFault.{HouseFault}
+use Rattle.hv_beginning.specs.hv_steps.specs.hv_table_reader.specs.hv_acts.specs.hv_telling.specs.hv_house.specs.House.{entries_of}
+use Rattle.hv_beginning.specs.hv_steps.specs.hv_table_reader.specs.hv_acts.specs.hv_telling.specs.Telling.{IsToldHouse, IsWhole, StillOpens}
+use Rattle.hv_beginning.specs.hv_steps.specs.hv_table_reader.specs.hv_acts.specs.declared.told.ToldHouse.{ToldHouse}
+use Rattle.hv_beginning.specs.hv_steps.specs.hv_table_reader.specs.hv_acts.specs.Told.{IsWholeOrClosed}
+use Rattle.hv_beginning.specs.hv_steps.specs.Ending.{aborting, IsAborted, HasReplied, HasStopped, NamesLast, EndedNamesLast, AddsAsked, CanEnd, IsPreparedIn, IsTrulyPrepared}
+use Rattle.hv_beginning.specs.hv_steps.specs.Ending as ending
+use Rattle.hv_beginning.specs.hv_steps.specs.declared.ready.Reply.{Reply}
+use Rattle.hv_beginning.specs.hv_steps.specs.declared.ready.Ready.{Ready}
+use Rattle.hv_beginning.specs.hv_steps.specs.declared.ready.Way.{Way}
+use Rattle.hv_beginning.specs.hv_steps.specs.declared.reply.Done.{Done}
+use Rattle.hv_beginning.specs.hv_steps.specs.declared.reply.Done.TheVariants as done
+use Rattle.hv_beginning.specs.hv_steps.specs.declared.reply.Outcome.{Outcome}
+use Rattle.hv_beginning.specs.hv_steps.specs.declared.reply.Outcome.TheVariants as outcome
+use Rattle.hv_beginning.specs.hv_steps.specs.declared.reply.Prepared.{Prepared}
+use Rattle.hv_beginning.specs.hv_steps.specs.Going.{faults_in, IsOpenHouse, AddsOwn, Gains, Halts}
+use Rattle.hv_beginning.specs.hv_steps.specs.Phases.{AbortsFor, IsUntoldDamage, Sees, Concludes, Prepares, AnswersTruly}
 use Rattle.hv_actor.specs.Acting.{among, known}
 
 -- others add nothing between

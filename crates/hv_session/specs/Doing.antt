@@ -16,18 +16,18 @@ use Rattle.hv_history.specs.State.{state_of}
 use Rattle.hv_history.specs.Legal.{HasRoom, profile}
 use Rattle.hv_stands.specs.Running.{Asking}
 use Rattle.hv_trail.specs.declared.trail.TrailItem.{TrailItem}
-use Rattle.hv_steps.specs.hv_table_reader.specs.hv_acts.specs.hv_telling.specs.hv_house.specs.declared.fault.HouseFault.{HouseFault}
-use Rattle.hv_steps.specs.hv_table_reader.specs.hv_acts.specs.declared.told.ToldHouse.{ToldHouse}
-use Rattle.hv_steps.specs.hv_table_reader.specs.hv_acts.specs.Told.{trail_in, book_in}
-use Rattle.hv_steps.specs.declared.ready.Way.{Way}
-use Rattle.hv_steps.specs.declared.ready.Ready.{Ready}
-use Rattle.hv_steps.specs.hv_table_reader.specs.hv_acts.specs.hv_telling.specs.Telling.{IsToldHouse}
-use Rattle.hv_steps.specs.declared.ready.Reply.{Reply}
-use Rattle.hv_steps.specs.declared.reply.Done.{Done}
-use Rattle.hv_steps.specs.declared.reply.Done.TheVariants as done
-use Rattle.hv_steps.specs.declared.reply.Opened.{Opened}
-use Rattle.hv_steps.specs.declared.reply.Opened.TheVariants as opened
-use Rattle.hv_steps.specs.declared.reply.Prepared.TheVariants as prepared
+use Rattle.hv_beginning.specs.hv_steps.specs.hv_table_reader.specs.hv_acts.specs.hv_telling.specs.hv_house.specs.declared.fault.HouseFault.{HouseFault}
+use Rattle.hv_beginning.specs.hv_steps.specs.hv_table_reader.specs.hv_acts.specs.declared.told.ToldHouse.{ToldHouse}
+use Rattle.hv_beginning.specs.hv_steps.specs.hv_table_reader.specs.hv_acts.specs.Told.{trail_in, book_in}
+use Rattle.hv_beginning.specs.hv_steps.specs.declared.ready.Way.{Way}
+use Rattle.hv_beginning.specs.hv_steps.specs.declared.ready.Ready.{Ready}
+use Rattle.hv_beginning.specs.hv_steps.specs.hv_table_reader.specs.hv_acts.specs.hv_telling.specs.Telling.{IsToldHouse}
+use Rattle.hv_beginning.specs.hv_steps.specs.declared.ready.Reply.{Reply}
+use Rattle.hv_beginning.specs.hv_steps.specs.declared.reply.Done.{Done}
+use Rattle.hv_beginning.specs.hv_steps.specs.declared.reply.Done.TheVariants as done
+use Rattle.hv_beginning.specs.hv_steps.specs.declared.reply.Opened.{Opened}
+use Rattle.hv_beginning.specs.hv_steps.specs.declared.reply.Opened.TheVariants as opened
+use Rattle.hv_beginning.specs.hv_steps.specs.declared.reply.Prepared.TheVariants as prepared
 use Rattle.hv_session.specs.declared.paused.Point.{Point}
 use Rattle.hv_session.specs.declared.paused.Point.TheVariants as point
 use Rattle.hv_session.specs.declared.paused.Paused.{Paused}
@@ -36,10 +36,10 @@ use Rattle.hv_session.specs.declared.paused.Carried.TheVariants as carried
 use Rattle.hv_session.specs.declared.paused.Taken.{Taken}
 use Rattle.hv_session.specs.declared.paused.Taken.TheVariants as taken
 use Rattle.hv_session.specs.Lines.{IsLine, IsTextLine, IsFullLine}
-use Rattle.hv_steps.specs.Ending.{HasReplied}
-use Rattle.hv_steps.specs.Going.{faults_in, Goes, GainsSome, WasOnWay, WasOpened, IsGoneSo}
-use Rattle.hv_steps.specs.Requests.{IsAskIn}
-use Rattle.hv_steps.specs.Phases.{HasBegun, HasNotBegun, AbortsFor, EndsBehind, IsUntoldDamage, ComesTo, PreparesAsked, PreparesTo, CanConclude, ConcludesSo, Concludes, AnswersTruly, HaltsBeginning}
+use Rattle.hv_beginning.specs.hv_steps.specs.Ending.{HasReplied}
+use Rattle.hv_beginning.specs.hv_steps.specs.Going.{faults_in, Goes, GainsSome, WasOnWay, WasOpened, IsGoneSo}
+use Rattle.hv_beginning.specs.hv_steps.specs.Requests.{IsAskIn}
+use Rattle.hv_beginning.specs.hv_steps.specs.Phases.{HasBegun, HasNotBegun, AbortsFor, EndsBehind, IsUntoldDamage, ComesTo, PreparesAsked, PreparesTo, CanConclude, ConcludesSo, Concludes, AnswersTruly, HaltsBeginning}
 use Rattle.hv_actor.specs.Acting.{Setting, Moment}
 
 -- ---- how a started statement ends
@@ -200,7 +200,6 @@ pub record GoesToHold {D : Type 0} (setting : Setting D (ToldHouse D)) (way : Wa
       → Goes setting (faults_in setting.faults before.house) way.txn.0 before now
       (GoesOnTo setting.told now.house asking way course) result
   pub truly : IsToldHouse setting.told before.house.house → IfOk result (CarriedTruly way.txn.0 now.house)
-  pub can : IfOk result (CanFinishSome setting.told now.house)
 
 -- ---- all of it
 

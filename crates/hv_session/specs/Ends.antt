@@ -7,16 +7,16 @@ use Rattle.hv_base.specs.declared.ids.Touch.{Touch}
 use Rattle.hv_history.specs.declared.entry.Entry.{Entry}
 use Rattle.hv_history.specs.declared.entry.Cause.TheVariants as cause
 use Rattle.hv_history.specs.Answers.{conflict_text}
-use Rattle.hv_steps.specs.hv_table_reader.specs.hv_acts.specs.declared.told.ToldHouse.{ToldHouse}
-use Rattle.hv_steps.specs.hv_table_reader.specs.hv_acts.specs.declared.aborted.Aborted.{Aborted}
-use Rattle.hv_steps.specs.hv_table_reader.specs.hv_acts.specs.declared.committing.Committed.{Committed}
-use Rattle.hv_steps.specs.hv_table_reader.specs.hv_acts.specs.declared.committing.Committed.TheVariants as committed
-use Rattle.hv_steps.specs.hv_table_reader.specs.hv_acts.specs.declared.fault.ActFault.{ActFault}
-use Rattle.hv_steps.specs.hv_table_reader.specs.hv_acts.specs.declared.making.Made.{Made}
-use Rattle.hv_steps.specs.hv_table_reader.specs.hv_acts.specs.Told.{book_in}
-use Rattle.hv_steps.specs.Ending.{aborting, committing, creating, dropping, HasEndedAt, HasReplied}
-use Rattle.hv_steps.specs.declared.reply.Done.{Done}
-use Rattle.hv_steps.specs.declared.reply.Done.TheVariants as done
+use Rattle.hv_beginning.specs.hv_steps.specs.hv_table_reader.specs.hv_acts.specs.declared.told.ToldHouse.{ToldHouse}
+use Rattle.hv_beginning.specs.hv_steps.specs.hv_table_reader.specs.hv_acts.specs.declared.aborted.Aborted.{Aborted}
+use Rattle.hv_beginning.specs.hv_steps.specs.hv_table_reader.specs.hv_acts.specs.declared.committing.Committed.{Committed}
+use Rattle.hv_beginning.specs.hv_steps.specs.hv_table_reader.specs.hv_acts.specs.declared.committing.Committed.TheVariants as committed
+use Rattle.hv_beginning.specs.hv_steps.specs.hv_table_reader.specs.hv_acts.specs.declared.fault.ActFault.{ActFault}
+use Rattle.hv_beginning.specs.hv_steps.specs.hv_table_reader.specs.hv_acts.specs.declared.making.Made.{Made}
+use Rattle.hv_beginning.specs.hv_steps.specs.hv_table_reader.specs.hv_acts.specs.Told.{book_in}
+use Rattle.hv_beginning.specs.hv_steps.specs.Ending.{aborting, committing, creating, dropping, HasEndedAt, HasReplied}
+use Rattle.hv_beginning.specs.hv_steps.specs.declared.reply.Done.{Done}
+use Rattle.hv_beginning.specs.hv_steps.specs.declared.reply.Done.TheVariants as done
 
 -- ---- a commit
 

@@ -1,6 +1,5 @@
-pub use Rattle.hv_steps as hv_steps
+pub use Rattle.hv_beginning as hv_beginning
 pub mod Alone
-pub mod Beginnings
 pub mod Doing
 pub mod Ends
 pub mod Faults

@@ -2,7 +2,7 @@
 use Rattle.std.specs.Prelude.{◌≡◌, ◌⊎◌, ℕ, None, true, List}
 use Rattle.hv_history.specs.declared.entry.Cause.TheVariants as cause
 use Rattle.hv_history.specs.Answers.{cause_text}
-use Rattle.hv_steps.specs.declared.ready.Reply.{Reply}
+use Rattle.hv_beginning.specs.hv_steps.specs.declared.ready.Reply.{Reply}
 use Rattle.hv_session.specs.Faults.{IsFaultLine}
 
 -- the reply is a refusal of this line

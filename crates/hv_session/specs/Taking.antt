@@ -18,8 +18,8 @@ use Rattle.hv_history.specs.Answers.{cause_text}
 use Rattle.hv_stands.specs.Running.{Asking, next_number, opening, starting, AreOf, meant, IsUnderWay}
 use Rattle.hv_law_next.specs.Order.{AllInOrder}
 use Rattle.hv_law_next.specs.Carrying.{IsAtHold, HasAskedAt}
-use Rattle.hv_steps.specs.Ending.{IsUndamaged, IsAskBy, AddsNoneOrId, AddsAbort, CanEnd, EndCanBeNoted, EndIsTrue, aborting, asking_for, HasReplied}
-use Rattle.hv_steps.specs.hv_table_reader.specs.hv_acts.specs.hv_telling.specs.hv_house.specs.Asking.{holder_against, CanBegin}
+use Rattle.hv_beginning.specs.hv_steps.specs.Ending.{IsUndamaged, IsAskBy, AddsNoneOrOne, AddsAbort, CanEnd, EndCanBeNoted, EndIsTrue, aborting, asking_for, HasReplied}
+use Rattle.hv_beginning.specs.hv_steps.specs.hv_table_reader.specs.hv_acts.specs.hv_telling.specs.hv_house.specs.Asking.{holder_against, CanBegin}
 use Rattle.hv_session.specs.Doing.{IsUnrefused}
 use Rattle.hv_session.specs.Faults.{IsFaultLine}
 use Rattle.hv_session.specs.declared.asking.Asking.{Asking as Handed}
@@ -90,7 +90,7 @@ HasJustStarted txn added = added ≡ entry.Start (record { 0 = txn }) 0 ∷ []
 -- it has asked for the aborts that its text lists, and has its write id where it needs one
 abbrev pub HasReadied : ℕ → List Entry → Type 0
 HasReadied txn added =
-    (asks : List Entry) × (first : List Entry) × AllByRecursion (IsAskBy txn) asks × AddsNoneOrId txn first
+    (asks : List Entry) × (first : List Entry) × AllByRecursion (IsAskBy txn) asks × AddsNoneOrOne txn first
     × (added ≡ starting txn ∷ (asks ++ first))
 
 -- and behind that of one that is held

@@ -12,27 +12,27 @@ use Rattle.hv_stands.specs.Running.{Asking, next_number, opening, starting, IsUn
 use Rattle.hv_trail.specs.declared.trail.TrailItem.{TrailItem}
 use Rattle.hv_law_next.specs.Order.{AllInOrder}
 use Rattle.hv_actor.specs.Acting.{IsAlone, among, known}
-use Rattle.hv_steps.specs.hv_table_reader.specs.hv_acts.specs.hv_telling.specs.hv_house.specs.declared.fault.HouseFault.{HouseFault}
-use Rattle.hv_steps.specs.hv_table_reader.specs.hv_acts.specs.hv_telling.specs.hv_house.specs.declared.house.House.{House}
-use Rattle.hv_steps.specs.hv_table_reader.specs.hv_acts.specs.hv_telling.specs.hv_house.specs.Faults.{FileCause}
-use Rattle.hv_steps.specs.hv_table_reader.specs.hv_acts.specs.hv_telling.specs.hv_house.specs.House.{entries_of, Leaves, BeginFits, beginning_of}
-use Rattle.hv_steps.specs.hv_table_reader.specs.hv_acts.specs.hv_telling.specs.hv_house.specs.Asking.{CanBegin}
-use Rattle.hv_steps.specs.hv_table_reader.specs.hv_acts.specs.hv_telling.specs.Telling.{IsWhole, IsToldHouse, StillOpens}
-use Rattle.hv_steps.specs.hv_table_reader.specs.hv_acts.specs.declared.told.ToldHouse.{ToldHouse}
-use Rattle.hv_steps.specs.hv_table_reader.specs.hv_acts.specs.Told.{IsWholeOrClosed}
-use Rattle.hv_steps.specs.declared.ready.Reply.{Reply}
-use Rattle.hv_steps.specs.declared.ready.Way.{Way}
-use Rattle.hv_steps.specs.declared.reply.Done.{Done}
-use Rattle.hv_steps.specs.declared.reply.Done.TheVariants as done
-use Rattle.hv_steps.specs.declared.reply.Opened.{Opened}
-use Rattle.hv_steps.specs.declared.reply.Opened.TheVariants as opened
+use Rattle.hv_beginning.specs.hv_steps.specs.hv_table_reader.specs.hv_acts.specs.hv_telling.specs.hv_house.specs.declared.fault.HouseFault.{HouseFault}
+use Rattle.hv_beginning.specs.hv_steps.specs.hv_table_reader.specs.hv_acts.specs.hv_telling.specs.hv_house.specs.declared.house.House.{House}
+use Rattle.hv_beginning.specs.hv_steps.specs.hv_table_reader.specs.hv_acts.specs.hv_telling.specs.hv_house.specs.Faults.{FileCause}
+use Rattle.hv_beginning.specs.hv_steps.specs.hv_table_reader.specs.hv_acts.specs.hv_telling.specs.hv_house.specs.House.{entries_of, Leaves, BeginFits, beginning_of}
+use Rattle.hv_beginning.specs.hv_steps.specs.hv_table_reader.specs.hv_acts.specs.hv_telling.specs.hv_house.specs.Asking.{CanBegin}
+use Rattle.hv_beginning.specs.hv_steps.specs.hv_table_reader.specs.hv_acts.specs.hv_telling.specs.Telling.{IsWhole, IsToldHouse, StillOpens}
+use Rattle.hv_beginning.specs.hv_steps.specs.hv_table_reader.specs.hv_acts.specs.declared.told.ToldHouse.{ToldHouse}
+use Rattle.hv_beginning.specs.hv_steps.specs.hv_table_reader.specs.hv_acts.specs.Told.{IsWholeOrClosed}
+use Rattle.hv_beginning.specs.hv_steps.specs.declared.ready.Reply.{Reply}
+use Rattle.hv_beginning.specs.hv_steps.specs.declared.ready.Way.{Way}
+use Rattle.hv_beginning.specs.hv_steps.specs.declared.reply.Done.{Done}
+use Rattle.hv_beginning.specs.hv_steps.specs.declared.reply.Done.TheVariants as done
+use Rattle.hv_beginning.specs.hv_steps.specs.declared.reply.Opened.{Opened}
+use Rattle.hv_beginning.specs.hv_steps.specs.declared.reply.Opened.TheVariants as opened
 use Rattle.hv_session.specs.declared.paused.Carried.{Carried}
 use Rattle.hv_session.specs.declared.paused.Carried.TheVariants as carried
 use Rattle.hv_session.specs.declared.paused.Taken.{Taken}
-use Rattle.hv_steps.specs.Ending.{AddsOf, HasStopped, HasReplied, IsUndamaged, aborting}
+use Rattle.hv_beginning.specs.hv_steps.specs.Ending.{AddsOf, HasStopped, HasReplied, IsUndamaged, aborting}
 use Rattle.hv_session.specs.Alone.{AddsNothing}
-use Rattle.hv_steps.specs.Going.{IsOpenHouse, faults_in, Goes, GainsSome}
-use Rattle.hv_steps.specs.Phases.{Begins, HaltsBeginning, BegunBy}
+use Rattle.hv_beginning.specs.hv_steps.specs.Going.{IsOpenHouse, faults_in, Goes, GainsSome}
+use Rattle.hv_beginning.specs.hv_steps.specs.Phases.{Begins, HaltsBeginning, BegunBy}
 use Rattle.hv_session.specs.Doing.{Course}
 use Rattle.hv_session.specs.Taking.{EndsBefore, HoldsAt, IsAtPlace, IsHeld, IsTrulyHeld, WentThrough, IsKept, IsKeptIn, IsTakenAs, IsFinished, IsWhyNot}
 

@@ -4,8 +4,8 @@ ghost use Rattle.hv_session.specs.Ways.{ActsAlone, PartsAlone, BeginsAlone, Halt
 ghost use Rattle.hv_session.specs.Alone.{AddsNothing, AddsAlone, OpenIsWhole, StopsAlone, OpensAlone, RefusesAlone, RefusesWaiting, ConcludesAlone, PreparesAlone, SeesAlone};
 
 use hv_actor::Actor;
+use hv_beginning::hv_steps::hv_table_reader::hv_acts::ToldHouse;
 use hv_shelf::Shelf;
-use hv_steps::hv_table_reader::hv_acts::ToldHouse;
 
 /// What one's own acts added is all that the book gained; and a house that is open is whole.
 pub fn alone_adds<D: Shelf + Drop, W: Actor<D, ToldHouse<D>>>()

@@ -1,28 +1,28 @@
 //! The end of a statement that is ready: by its commit, its Create or its Drop, by the abort for a conflict, or by one for want of memory.
 ghost use Rattle.std.specs.Prelude.{◌≡◌, ℕ, List, false, Some, [], IfOk, IfErr};
 ghost use Rattle.hv_history.specs.Answers.{ok_line};
-ghost use Rattle.hv_steps.specs.hv_table_reader.specs.hv_acts.specs.hv_telling.specs.hv_house.specs.House.{IsSmall};
-ghost use Rattle.hv_steps.specs.hv_table_reader.specs.hv_acts.specs.hv_telling.specs.Telling.{IsToldHouse};
-ghost use Rattle.hv_steps.specs.hv_table_reader.specs.hv_acts.specs.Told.{trail_in, book_in};
-ghost use Rattle.hv_steps.specs.hv_table_reader.specs.hv_acts.specs.Meant.{IsCommitDue, IsMakeMeant, IsDropMeant};
-ghost use Rattle.hv_steps.specs.hv_table_reader.specs.hv_acts.specs.Committing.{CanBePut};
-ghost use Rattle.hv_steps.specs.declared.ready.End.TheVariants as last;
-ghost use Rattle.hv_steps.specs.Ending.{committing, HasReplied};
-ghost use Rattle.hv_steps.specs.declared.reply.Done.TheVariants as done;
+ghost use Rattle.hv_beginning.specs.hv_steps.specs.hv_table_reader.specs.hv_acts.specs.hv_telling.specs.hv_house.specs.House.{IsSmall};
+ghost use Rattle.hv_beginning.specs.hv_steps.specs.hv_table_reader.specs.hv_acts.specs.hv_telling.specs.Telling.{IsToldHouse};
+ghost use Rattle.hv_beginning.specs.hv_steps.specs.hv_table_reader.specs.hv_acts.specs.Told.{trail_in, book_in};
+ghost use Rattle.hv_beginning.specs.hv_steps.specs.hv_table_reader.specs.hv_acts.specs.Meant.{IsCommitDue, IsMakeMeant, IsDropMeant};
+ghost use Rattle.hv_beginning.specs.hv_steps.specs.hv_table_reader.specs.hv_acts.specs.Committing.{CanBePut};
+ghost use Rattle.hv_beginning.specs.hv_steps.specs.declared.ready.End.TheVariants as last;
+ghost use Rattle.hv_beginning.specs.hv_steps.specs.Ending.{committing, HasReplied};
+ghost use Rattle.hv_beginning.specs.hv_steps.specs.declared.reply.Done.TheVariants as done;
 ghost use Rattle.hv_session.specs.Ends.{commit_adds, IsCommitEnd, IsCommitAnswered, committed_reply, create_adds, drop_adds};
-ghost use Rattle.hv_steps.specs.Going.{faults_in, IsOpenHouse, AddsOwn, Goes, WasOpened};
-ghost use Rattle.hv_steps.specs.Leaving.{IsLeft, EndsAct, added_by};
-ghost use Rattle.hv_steps.specs.Phases.{IsDueSo, CanConclude, Concludes, AnswersTruly};
+ghost use Rattle.hv_beginning.specs.hv_steps.specs.Going.{faults_in, IsOpenHouse, AddsOwn, Goes, WasOpened};
+ghost use Rattle.hv_beginning.specs.hv_steps.specs.Leaving.{IsLeft, EndsAct, added_by};
+ghost use Rattle.hv_beginning.specs.hv_steps.specs.Phases.{IsDueSo, CanConclude, Concludes, AnswersTruly};
 ghost use Rattle.hv_actor.specs.Acting.{among, known};
 
 use hv_actor::Actor;
 use hv_base::{List, TableId, Text, Touch, TxnId};
-use hv_shelf::{Place, Shelf};
-use hv_steps::hv_table_reader::hv_acts::hv_telling::hv_house::HouseFault;
-use hv_steps::hv_table_reader::hv_acts::{
+use hv_beginning::hv_steps::hv_table_reader::hv_acts::hv_telling::hv_house::HouseFault;
+use hv_beginning::hv_steps::hv_table_reader::hv_acts::{
     Aborted, ActFault, CommitWrites, Committed, DropTable, Made, MakeTable, ToldHouse,
 };
-use hv_steps::{Done, End, Ready, Reply, Way, end_without};
+use hv_beginning::hv_steps::{Done, End, Ready, Reply, Way, end_without};
+use hv_shelf::{Place, Shelf};
 use std::alloc::Global;
 
 /// Commits a transaction, or aborts it for a conflict, where that fits.

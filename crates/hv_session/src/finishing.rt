@@ -1,9 +1,9 @@
 //! A held statement to its reply: what others have ended meanwhile is told, and any other goes on to its end.
 ghost use Rattle.std.specs.Prelude.{◌≡◌, ◌⊎◌, ℕ, IfOk};
-ghost use Rattle.hv_steps.specs.hv_table_reader.specs.hv_acts.specs.hv_telling.specs.hv_house.specs.House.{entries_of};
-ghost use Rattle.hv_steps.specs.hv_table_reader.specs.hv_acts.specs.hv_telling.specs.Telling.{IsToldHouse};
-ghost use Rattle.hv_steps.specs.hv_table_reader.specs.hv_acts.specs.Told.{trail_in};
-ghost use Rattle.hv_steps.specs.Going.{IsOpenHouse, SaysEnd, faults_in, Goes};
+ghost use Rattle.hv_beginning.specs.hv_steps.specs.hv_table_reader.specs.hv_acts.specs.hv_telling.specs.hv_house.specs.House.{entries_of};
+ghost use Rattle.hv_beginning.specs.hv_steps.specs.hv_table_reader.specs.hv_acts.specs.hv_telling.specs.Telling.{IsToldHouse};
+ghost use Rattle.hv_beginning.specs.hv_steps.specs.hv_table_reader.specs.hv_acts.specs.Told.{trail_in};
+ghost use Rattle.hv_beginning.specs.hv_steps.specs.Going.{IsOpenHouse, SaysEnd, faults_in, Goes};
 ghost use Rattle.hv_session.specs.Doing.{CanFinish, FinishesSo, RepliesTruly, reply_from, replied_of};
 ghost use Rattle.hv_session.specs.Taking.{IsTrulyHeld, WasStopped};
 ghost use Rattle.hv_session.specs.Ways.{ActsAlone, FinishesAlone, IsFinishedSo};
@@ -13,10 +13,10 @@ use crate::paused::Paused;
 use crate::taking::go_on;
 use hv_actor::Actor;
 use hv_ast::discard;
+use hv_beginning::hv_steps::hv_table_reader::hv_acts::ToldHouse;
+use hv_beginning::hv_steps::hv_table_reader::hv_acts::hv_telling::hv_house::HouseFault;
+use hv_beginning::hv_steps::{Done, Reply, tell_end};
 use hv_shelf::Shelf;
-use hv_steps::hv_table_reader::hv_acts::ToldHouse;
-use hv_steps::hv_table_reader::hv_acts::hv_telling::hv_house::HouseFault;
-use hv_steps::{Done, Reply, tell_end};
 use std::alloc::Global;
 
 /// The reply of a statement that has ended: its own, or what is told of the end that others made.

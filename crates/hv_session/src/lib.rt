@@ -2,7 +2,7 @@
 //! the house between.
 #![tactic(auto)]
 
-pub use hv_steps;
+pub use hv_beginning;
 
 mod alone;
 mod asking;
@@ -10,7 +10,6 @@ mod concluding;
 mod finishing;
 mod laws;
 mod lines;
-mod opening;
 mod paused;
 mod readying;
 mod statement;
@@ -21,8 +20,10 @@ pub use alone::{
     alone_sees, alone_stops, who_acts_alone,
 };
 pub use asking::{Asking, How};
-pub use finishing::finish;
+pub use concluding::conclude;
+pub use finishing::{finish, reply_from};
 pub use laws::what_is_held_can_be_finished;
-pub use lines::memory_reply;
+pub use lines::{full_reply, memory_reply, text_reply};
 pub use paused::{Paused, Point, Taken};
+pub use readying::get_ready;
 pub use statement::take_up;

@@ -8,9 +8,9 @@ ghost use Rattle.hv_session.specs.Faults.{IsFaultLine, placed_line};
 ghost use Rattle.hv_session.specs.Lines.{IsLine, IsTextLine, IsFullLine};
 
 use hv_base::{List, NoMemory, Refusal};
+use hv_beginning::hv_steps::Reply;
 use hv_history::{Cause, cause_text};
 use hv_reading::TextFault;
-use hv_steps::Reply;
 use std::alloc::Global;
 
 /// The line of a refusal of this number, and what it names.

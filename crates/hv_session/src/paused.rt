@@ -1,6 +1,6 @@
 use hv_ast::Stmt;
-use hv_effect::Touching;
-use hv_steps::{Done, Ready, Reply, Way};
+use hv_beginning::hv_steps::hv_effect::Touching;
+use hv_beginning::hv_steps::{Done, Ready, Reply, Way};
 
 /// How far a held statement has come.
 #[derive(Drop)]

@@ -4,20 +4,20 @@ ghost use Rattle.std.specs.Prelude.{◌≡◌, IfOk};
 ghost use Rattle.hv_logic.specs.declared.meaning.Meaning.TheVariants.{Plain};
 ghost use Rattle.hv_history.specs.Shown.{is_plain};
 ghost use Rattle.hv_stands.specs.Running.{Asking};
-ghost use Rattle.hv_steps.specs.hv_table_reader.specs.hv_acts.specs.Told.{trail_in};
-ghost use Rattle.hv_steps.specs.Going.{faults_in, Goes, IsOpenHouse, WasOnWay};
-ghost use Rattle.hv_steps.specs.Phases.{CanConcludeIn, ComesTo, PreparesAsked};
-ghost use Rattle.hv_steps.specs.Requests.{IsAskIn};
+ghost use Rattle.hv_beginning.specs.hv_steps.specs.hv_table_reader.specs.hv_acts.specs.Told.{trail_in};
+ghost use Rattle.hv_beginning.specs.hv_steps.specs.Going.{faults_in, Goes, IsOpenHouse, WasOnWay};
+ghost use Rattle.hv_beginning.specs.hv_steps.specs.Phases.{CanConcludeIn, ComesTo, PreparesAsked};
+ghost use Rattle.hv_beginning.specs.hv_steps.specs.Requests.{IsAskIn};
 ghost use Rattle.hv_actor.specs.Acting.{among, known};
 
 use hv_actor::Actor;
 use hv_ast::Stmt;
-use hv_effect::Touching;
+use hv_beginning::hv_steps::hv_effect::Touching;
+use hv_beginning::hv_steps::hv_table_reader::hv_acts::ToldHouse;
+use hv_beginning::hv_steps::hv_table_reader::hv_acts::hv_telling::hv_house::HouseFault;
+use hv_beginning::hv_steps::{Asked, Prepared, Way, ask, prepare};
 use hv_logic::Meaning;
 use hv_shelf::Shelf;
-use hv_steps::hv_table_reader::hv_acts::ToldHouse;
-use hv_steps::hv_table_reader::hv_acts::hv_telling::hv_house::HouseFault;
-use hv_steps::{Asked, Prepared, Way, ask, prepare};
 use std::alloc::Global;
 
 /// Whether a statement comes to nothing.

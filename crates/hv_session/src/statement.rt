@@ -1,9 +1,9 @@
 //! A statement from its text to its end, or to the place where it is to be held, over any actor.
 ghost use Rattle.std.specs.Prelude.{◌≡◌, ◌≤◌, false, length, IfOk, IfErr};
 ghost use Rattle.hv_built.specs.Running.{Runs};
-ghost use Rattle.hv_steps.specs.Going.{IsOpenHouse, faults_in, GainsSome};
-ghost use Rattle.hv_steps.specs.Phases.{HaltsBeginning};
-ghost use Rattle.hv_session.specs.Doing.{IsHold, IsSaidFor, WasNeverOpened, TakesText, CanFinishTaken};
+ghost use Rattle.hv_beginning.specs.hv_steps.specs.Going.{IsOpenHouse, faults_in, GainsSome};
+ghost use Rattle.hv_beginning.specs.hv_steps.specs.Phases.{HaltsBeginning};
+ghost use Rattle.hv_session.specs.Doing.{IsHold, IsSaidFor, WasNeverOpened, TakesText};
 ghost use Rattle.hv_session.specs.Taking.{asked_of};
 ghost use Rattle.hv_session.specs.Ways.{ActsAlone, TakesAlone};
 ghost use Rattle.hv_actor.specs.Acting.{among, known};
@@ -16,10 +16,10 @@ use crate::taking::carry;
 use hv_actor::Actor;
 use hv_ast::{Stmt, discard};
 use hv_base::NoMemory;
+use hv_beginning::hv_steps::hv_table_reader::hv_acts::ToldHouse;
+use hv_beginning::hv_steps::hv_table_reader::hv_acts::hv_telling::hv_house::HouseFault;
 use hv_reading::read_statement;
 use hv_shelf::Shelf;
-use hv_steps::hv_table_reader::hv_acts::ToldHouse;
-use hv_steps::hv_table_reader::hv_acts::hv_telling::hv_house::HouseFault;
 use std::alloc::Global;
 
 /// What is replied to a statement that was carried so far. Only memory may lack for it, where it was never opened.
@@ -44,6 +44,7 @@ fn take_read<D: Shelf + Drop, W: Actor<D, ToldHouse<D>>>(
     tree: Stmt,
 ) -> Result<Taken, HouseFault>
     requires keeps { W.keeps actor.old }
+    requires both { 2 ≤ W.most }
     requires running { IsOpenHouse (W.house actor.old) }
     requires kept { Runs asking.text kept }
     requires tree { Runs asking.text tree }
@@ -56,7 +57,6 @@ fn take_read<D: Shelf + Drop, W: Actor<D, ToldHouse<D>>>(
         (TakesText D.told (W.house actor.old) (W.house actor.new) (asked_of asking) asking.hold answer)) }
     ensures halts { IfErr result (HaltsBeginning (among D.told D.faults W.between W.meanwhile) (asked_of asking)
         (known (W.own actor.old) (W.house actor.old)) (known (W.own actor.new) (W.house actor.new))) }
-    ensures can { IfOk result (CanFinishTaken D.told (W.house actor.new)) }
     ensures alone { ActsAlone W.between W.meanwhile
         → TakesAlone D.told D.faults (asked_of asking) asking.hold (W.house actor.old).house (W.house actor.new).house
         result }
@@ -82,6 +82,7 @@ fn take_statement<D: Shelf + Drop, W: Actor<D, ToldHouse<D>>>(
     tree: Stmt,
 ) -> Result<Taken, HouseFault>
     requires keeps { W.keeps actor.old }
+    requires both { 2 ≤ W.most }
     requires running { IsOpenHouse (W.house actor.old) }
     requires tree { Runs asking.text tree }
     requires short { length asking.text ≤ 32768 }
@@ -93,7 +94,6 @@ fn take_statement<D: Shelf + Drop, W: Actor<D, ToldHouse<D>>>(
         (TakesText D.told (W.house actor.old) (W.house actor.new) (asked_of asking) asking.hold answer)) }
     ensures halts { IfErr result (HaltsBeginning (among D.told D.faults W.between W.meanwhile) (asked_of asking)
         (known (W.own actor.old) (W.house actor.old)) (known (W.own actor.new) (W.house actor.new))) }
-    ensures can { IfOk result (CanFinishTaken D.told (W.house actor.new)) }
     ensures alone { ActsAlone W.between W.meanwhile
         → TakesAlone D.told D.faults (asked_of asking) asking.hold (W.house actor.old).house (W.house actor.new).house
         result }
@@ -120,6 +120,7 @@ pub fn take_up<D: Shelf + Drop, W: Actor<D, ToldHouse<D>>>(
     how: How,
 ) -> Result<Taken, HouseFault>
     requires keeps { W.keeps actor.old }
+    requires both { 2 ≤ W.most }
     requires running { IsOpenHouse (W.house actor.old) }
     requires short { length asking.text ≤ 32768 }
     requires named { length asking.session ≤ 32 }
@@ -131,7 +132,6 @@ pub fn take_up<D: Shelf + Drop, W: Actor<D, ToldHouse<D>>>(
         (TakesText D.told (W.house actor.old) (W.house actor.new) (asked_of asking) asking.hold answer)) }
     ensures halts { IfErr result (HaltsBeginning (among D.told D.faults W.between W.meanwhile) (asked_of asking)
         (known (W.own actor.old) (W.house actor.old)) (known (W.own actor.new) (W.house actor.new))) }
-    ensures can { IfOk result (CanFinishTaken D.told (W.house actor.new)) }
     ensures alone { ActsAlone W.between W.meanwhile
         → TakesAlone D.told D.faults (asked_of asking) asking.hold (W.house actor.old).house (W.house actor.new).house
         result }

@@ -3,31 +3,31 @@ ghost use Rattle.std.specs.Prelude.{◌≡◌, ◌≤◌, ℕ, List, Some, None,
 ghost use Rattle.hv_base.specs.declared.gate.Stage.TheVariants as stage;
 ghost use Rattle.hv_built.specs.Running.{Runs};
 ghost use Rattle.hv_stands.specs.Running.{Asking, meant};
-ghost use Rattle.hv_steps.specs.hv_table_reader.specs.hv_acts.specs.hv_telling.specs.hv_house.specs.House.{entries_of};
-ghost use Rattle.hv_steps.specs.hv_table_reader.specs.hv_acts.specs.hv_telling.specs.Telling.{IsToldHouse, IsWhole};
-ghost use Rattle.hv_steps.specs.hv_table_reader.specs.hv_acts.specs.declared.told.ToldHouse.{ToldHouse as House};
-ghost use Rattle.hv_steps.specs.hv_table_reader.specs.hv_acts.specs.Told.{trail_in};
-ghost use Rattle.hv_steps.specs.Ending.{CanEnd};
+ghost use Rattle.hv_beginning.specs.hv_steps.specs.hv_table_reader.specs.hv_acts.specs.hv_telling.specs.hv_house.specs.House.{entries_of};
+ghost use Rattle.hv_beginning.specs.hv_steps.specs.hv_table_reader.specs.hv_acts.specs.hv_telling.specs.Telling.{IsToldHouse, IsWhole};
+ghost use Rattle.hv_beginning.specs.hv_steps.specs.hv_table_reader.specs.hv_acts.specs.declared.told.ToldHouse.{ToldHouse as House};
+ghost use Rattle.hv_beginning.specs.hv_steps.specs.hv_table_reader.specs.hv_acts.specs.Told.{trail_in};
+ghost use Rattle.hv_beginning.specs.hv_steps.specs.Ending.{CanEnd};
 ghost use Rattle.hv_session.specs.Taking.{IsHeldBySome, IsTrulyHeld};
 ghost use Rattle.hv_session.specs.Ways.{ActsAlone, IsOnWay, EndsAlone, GoesAlone, CarriesAlone};
-ghost use Rattle.hv_steps.specs.Going.{IsOpenHouse, faults_in, Goes, GainsSome, WasOnWay};
-ghost use Rattle.hv_steps.specs.Phases.{ComesTo, AnswersTruly, Begins, HaltsBeginning};
-ghost use Rattle.hv_session.specs.Doing.{EndsFrom, EndsAs, IsHold, is_refused, carried_of, CanFinish, CanFinishSome, Finishes, Takes, GoesToHold, GoesTaking, WasStarted, up_to};
+ghost use Rattle.hv_beginning.specs.hv_steps.specs.Going.{IsOpenHouse, faults_in, Goes, GainsSome, WasOnWay};
+ghost use Rattle.hv_beginning.specs.hv_steps.specs.Phases.{ComesTo, AnswersTruly, Begins, HaltsBeginning};
+ghost use Rattle.hv_session.specs.Doing.{EndsFrom, EndsAs, IsHold, is_refused, carried_of, CanFinish, Finishes, Takes, GoesToHold, GoesTaking, WasStarted, up_to};
 ghost use Rattle.hv_actor.specs.Acting.{among, known};
 
 use crate::concluding::conclude;
-use crate::opening::begin;
 use crate::paused::{Carried, Paused, Point};
 use crate::readying::get_ready;
 use hv_actor::Actor;
 use hv_ast::{Stmt, discard};
 use hv_base::{Stage, Text};
-use hv_effect::Touching;
+use hv_beginning::begin;
+use hv_beginning::hv_steps::hv_effect::Touching;
+use hv_beginning::hv_steps::hv_table_reader::hv_acts::ToldHouse;
+use hv_beginning::hv_steps::hv_table_reader::hv_acts::hv_telling::hv_house::HouseFault;
+use hv_beginning::hv_steps::{Done, Opened, Outcome, Prepared, Way, see};
 use hv_logic::Meaning;
 use hv_shelf::Shelf;
-use hv_steps::hv_table_reader::hv_acts::ToldHouse;
-use hv_steps::hv_table_reader::hv_acts::hv_telling::hv_house::HouseFault;
-use hv_steps::{Done, Opened, Outcome, Prepared, Way, see};
 use std::alloc::Global;
 
 /// What has ended, as what taking up a statement answers.
@@ -333,7 +333,6 @@ fn go_opened<D: Shelf + Drop, W: Actor<D, ToldHouse<D>>>(
         (known (W.own actor.old) (W.house actor.old)) (Begins first (W.house actor.old) asking tree opened)
         → GoesTaking (among D.told D.faults W.between W.meanwhile) asking (up_to tree hold) (known own first)
         (known (W.own actor.new) (W.house actor.new)) result }
-    ensures can { IfOk result (CanFinishSome D.told (W.house actor.new)) }
     ensures alone { ActsAlone W.between W.meanwhile → (first : House D) (own : List ℕ) (asking : Asking)
         → Runs asking.text tree
         → IsOpenHouse first → IsWhole D.told first.house
@@ -373,6 +372,7 @@ pub fn carry<D: Shelf + Drop, W: Actor<D, ToldHouse<D>>>(
     hold: Option<Stage>,
 ) -> Result<Carried, HouseFault>
     requires keeps { W.keeps actor.old }
+    requires both { 2 ≤ W.most }
     requires running { IsOpenHouse (W.house actor.old) }
     requires kept { Runs text kept }
     requires tree { Runs text tree }
@@ -387,7 +387,6 @@ pub fn carry<D: Shelf + Drop, W: Actor<D, ToldHouse<D>>>(
     ensures halts { IfErr result (HaltsBeginning (among D.told D.faults W.between W.meanwhile)
         (record { session = session; number = number; text = text })
         (known (W.own actor.old) (W.house actor.old)) (known (W.own actor.new) (W.house actor.new))) }
-    ensures can { IfOk result (CanFinishSome D.told (W.house actor.new)) }
     ensures alone { ActsAlone W.between W.meanwhile → CarriesAlone D.told D.faults
         (record { session = session; number = number; text = text }) hold
         (W.house actor.old).house (W.house actor.new).house result }

@@ -9,7 +9,6 @@ use Rattle.hv_base.specs.declared.ids.Limits.{Limits}
 use Rattle.hv_base.specs.declared.ids.Touch.{Touch}
 use Rattle.hv_ast.specs.declared.statement.Stmt.{Stmt}
 use Rattle.hv_grammar.specs.Texts.{tree_of}
-use Rattle.hv_logic.specs.Names.{names_in}
 use Rattle.hv_history.specs.declared.entry.Entry.{Entry}
 use Rattle.hv_history.specs.declared.entry.Entry.TheVariants as entry
 use Rattle.hv_history.specs.declared.state.Ending.{Ending}
@@ -23,8 +22,9 @@ use Rattle.hv_history.specs.Lasting.{AllLater, Later}
 use Rattle.hv_history.specs.Shown.{inserted_by, inserted_of, has_kept, stood_rows, transaction_rows, held_rows, lock_rows}
 use Rattle.hv_history.proofs.LastingLaws.{goes-on-all}
 use Rattle.hv_fits.specs.Texts.{HasOneText, TextsRun}
-use Rattle.hv_fits.proofs.LockLemmas.{IfThere, texts-run, one-lock, one-tree, same-tree, numbered-all}
+use Rattle.hv_fits.proofs.LockLemmas.{IfThere, texts-run, one-lock, kept-tree, same-names, numbered-all}
 use Rattle.hv_book.specs.Briefs.{brief, snapshot_place, session_in, tree_in}
+use Rattle.hv_book.specs.Said.{said}
 use Rattle.hv_book.specs.Commits.{wrote_by, wrote_in}
 use Rattle.hv_book.specs.Past.{is_before, IsBelowLimit}
 use Rattle.hv_book.proofs.NoteLaws.{map-same}
@@ -99,7 +99,7 @@ module _ (entries : List Entry) (position txn : ℕ) where
 
   tree-by : (t : Transaction) (o : Option Transaction) → IsSomeAnd o (Later t) → tree_in o ≡ tree_in (Some t)
   tree-by t None late = absurd late
-  tree-by t (Some u) late = first-same t.statements u.statements late.statements
+  tree-by t (Some u) late = ap (option_map said) (first-same t.statements u.statements late.statements)
 
   pub tree-then : (t : Transaction) → then_there ≡ Some t → tree_in now_there ≡ tree_in (Some t)
   tree-then t here = tree-by t now_there (later t here)
@@ -372,8 +372,8 @@ idle-locks : (number : ℕ) (t : Transaction) → (is_open t && is_started t) �
 idle-locks number t idle = ap (λ b. if b then held_rows number (locks_of t) else []) idle
 
 held-by : (number : ℕ) (t : Transaction) (o : Option Stmt) → o ≡ tree_in (Some t) → HasOneText t → held_in number o ≡ held_rows number (locks_of t)
-held-by number t None is one = let both : None ≡ Some one.tree = is ∙ one-tree t one in cc
-held-by number t (Some tree) is one = ap (held_rows number) (ap names_in (sym (same-tree t one tree is)) ∙ sym (one-lock t one))
+held-by number t None is one = let both : None ≡ Some (said one.tree) = is ∙ kept-tree t one in cc
+held-by number t (Some tree) is one = ap (held_rows number) (sym (same-names t one tree is) ∙ sym (one-lock t one))
 
 pub held-then : (entries : List Entry) (position txn : ℕ) → TextsRun (state_of (take position entries)) → is_running_in (then_at entries position txn) ≡ true
     → held_in txn (tree_in (numbered (state_of entries).transactions txn)) ≡ rows_at lock_rows txn (then_at entries position txn)

@@ -3,8 +3,10 @@
 
 pub use hv_earlier;
 pub use hv_fits;
+pub use hv_tallies;
 
 mod fronts;
+mod jobs;
 mod locks;
 mod marks;
 mod partitions;
@@ -12,6 +14,7 @@ mod rows;
 mod showing;
 mod transactions;
 
+pub use jobs::job_names;
 pub use locks::{lock_names, put_locks};
 pub use partitions::put_touches;
 pub use rows::{in_order, one_name, text_row};

@@ -104,7 +104,7 @@ fn mark_entries(
 }
 
 /// Those before a place.
-fn before(entries: &[Entry], position: usize) -> &[Entry]
+pub fn before(entries: &[Entry], position: usize) -> &[Entry]
     requires { position ≤ length entries.now }
     ensures { result.now ≡ take position entries.now }
 {

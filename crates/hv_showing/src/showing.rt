@@ -4,10 +4,13 @@ ghost use Rattle.std.specs.Prelude.{◌≡◌, ◌≤◌, IfOk, codes, length, m
 ghost use Rattle.hv_fits.specs.Texts.{TextsRun};
 ghost use Rattle.hv_history.specs.State.{state_of, nothing_yet};
 ghost use Rattle.hv_history.specs.Legal.{AllFit, profile};
-ghost use Rattle.hv_history.specs.Shown.{each_from, lock_names, lock_rows, number_named, one_name, partition_rows, show_listed, shows, table_rows, transaction_names, transaction_rows};
+ghost use Rattle.hv_history.specs.Standing.{first_open};
+ghost use Rattle.hv_history.specs.Shown.{each_from, job_names, job_rows, lock_names, lock_rows, number_named, one_name, partition_rows, show_listed, shows, table_rows, transaction_names, transaction_rows};
 ghost use Rattle.hv_showing.specs.Fronts.{IsFrontOf, tables_then, transactions_then, info_row, info_number};
+ghost use Rattle.hv_showing.specs.Jobs.{jobs_then};
 
 use crate::fronts::{Front, front_at};
+use crate::jobs::{job_names, jobs_at};
 use crate::locks::{lock_names, locks_then};
 use crate::marks::marks_at;
 use crate::partitions::inserted_rows;
@@ -158,6 +161,19 @@ fn show_locks(alloc: Global, book: &Book, front: Front) -> Result<Option<Shown>,
     Ok(listed)
 }
 
+fn show_compactions(alloc: Global, book: &Book, front: Front) -> Result<Option<Shown>, NoMemory>
+    requires front { IsFrontOf book.now.entries front }
+    requires place { front.position ≤ length book.now.entries }
+    ensures { IfOk result (λ shown. shown ≡ shows job_names (job_rows (tables_then book.now.entries front.position)
+        (first_open 1 (transactions_then book.now.entries front.position)) 1
+        (jobs_then book.now.entries front.position))) }
+{
+    let names = job_names(alloc)?;
+    let rows = jobs_at(alloc, book, front)?;
+    let listed = shown(names, rows)?;
+    Ok(listed)
+}
+
 #[tactic(auto, unfolding(hv_history::specs::Shown::show_listed))]
 fn show_before(
     alloc: Global,
@@ -177,13 +193,13 @@ fn show_before(
         Show::Partitions(name) => show_partitions(alloc, book, front, name),
         Show::Transactions => show_transactions(alloc, book, front),
         Show::Locks => show_locks(alloc, book, front),
-        Show::Compactions => Ok(None),
+        Show::Compactions => show_compactions(alloc, book, front),
     }
 }
 
-/// What a SHOW lists of a book as the entries before a place leave it; None where it isn't built. It walks the
-/// tables, the transactions that were opened before the place and, for SHOW TRANSACTIONS, the entries before it,
-/// each once, and sorts what it lists.
+/// What a SHOW lists of a book as the entries before a place leave it. It walks the tables, the transactions that were
+/// opened before the place and, for SHOW TRANSACTIONS and SHOW COMPACTIONS, the entries before it, each once, and sorts
+/// what it lists.
 ///
 /// # Errors
 /// `NoMemory` where memory lacked.

@@ -6,9 +6,9 @@ use Rattle.serde_json.proofs.OnLiterals.{serde_json_on_literals}
 use Rattle.serde_json.specs.Data.{Data, string, array, object, Items, member, no_members}
 use Rattle.serde_json.specs.View.{items_of}
 use Rattle.serde_json.specs.Written.{comma_if, has_float, items_have_float, compact_text, items_text}
-use Rattle.hv_stage.specs.declared.stages.StageKind.{StageKind}
-use Rattle.hv_stage.specs.declared.stages.StageKind.TheVariants.{Map, Shuffle, Reduce}
-use Rattle.hv_stage.specs.Line.{stage_name, quoted_name, comma, names_from, stages_line}
+use Rattle.hv_typing.specs.declared.stages.StageKind.{StageKind}
+use Rattle.hv_typing.specs.declared.stages.StageKind.TheVariants.{Map, Shuffle, Reduce}
+use Rattle.hv_typing.specs.StageLine.{stage_name, quoted_name, comma, names_from, stages_line}
 
 abbrev name_data : StageKind → Data
 name_data kind = string (stage_name kind)

@@ -10,8 +10,8 @@ use Rattle.hv_typing.specs.declared.tree.TypedSource.{TypedSource}
 use Rattle.hv_typing.specs.declared.tree.TypedSource.TheVariants as source
 use Rattle.hv_law_query.specs.Mapped.{mapped_join, mapped_sources, mapped_union, mapped_query}
 use Rattle.hv_law_query.proofs.Folds.{fold-Table, fold-Query}
-use Rattle.hv_stage.specs.declared.stages.StageKind.{StageKind}
-use Rattle.hv_stage.specs.Stages.{once_stages, order_stages, shown_stages, join_stages, source_of_join, build_of_join, from_stages, union_stages, query_stages, layer_stages, source_stages, stages_of}
+use Rattle.hv_typing.specs.declared.stages.StageKind.{StageKind}
+use Rattle.hv_typing.specs.Stages.{once_stages, order_stages, shown_stages, join_stages, source_of_join, build_of_join, from_stages, union_stages, query_stages, layer_stages, source_stages, stages_of}
 
 abbrev Kinds : Type 0
 Kinds = List StageKind

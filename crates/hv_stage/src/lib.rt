@@ -5,4 +5,4 @@ mod line;
 mod stages;
 
 pub use line::explain;
-pub use stages::{StageKind, Stages, plan_stages};
+pub use stages::{Stages, plan_stages};

@@ -3,10 +3,11 @@
 ghost use Rattle.std.specs.Prelude.{◌≡◌, map, codes, string_bytes, IfOk};
 ghost use Rattle.serde_json.specs.Data.{string, array, object, member, no_members};
 ghost use Rattle.serde_json.specs.View.{view, items_of};
-ghost use Rattle.hv_stage.specs.Line.{stage_name, stages_line};
+ghost use Rattle.hv_typing.specs.StageLine.{stage_name, stages_line};
 
-use crate::stages::{StageKind, Stages};
+use crate::stages::Stages;
 use hv_base::{NoMemory, Text};
+use hv_typing::StageKind;
 use serde_json::{Map, Value};
 use std::alloc::Global;
 

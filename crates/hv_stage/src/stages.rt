@@ -1,24 +1,14 @@
 //! The stages that carry out a query.
 
 ghost use Rattle.std.specs.Prelude.{◌≡◌, ◌++◌, flat_map, IfOk, OnOk, Some};
-ghost use Rattle.hv_stage.specs.Stages.{join_stages, group_stages, once_stages, order_stages, shown_stages, source_of_join, build_of_join, from_stages, select_stages, union_stages, source_stages, stages_of};
+ghost use Rattle.hv_typing.specs.Stages.{join_stages, group_stages, once_stages, order_stages, shown_stages, source_of_join, build_of_join, from_stages, select_stages, union_stages, source_stages, stages_of};
 
 use hv_base::{List, NoMemory};
 use hv_typing::{
-    Grouping, JoinKind, SortKey, TypedFrom, TypedJoin, TypedQuery, TypedSelect, TypedSource,
-    TypedUnion,
+    Grouping, JoinKind, SortKey, StageKind, TypedFrom, TypedJoin, TypedQuery, TypedSelect,
+    TypedSource, TypedUnion,
 };
 use std::alloc::Global;
-
-#[derive(Clone, Copy)]
-pub enum StageKind {
-    /// Each part of the rows by itself.
-    Map,
-    /// What has one key is brought together.
-    Shuffle,
-    /// What was brought together is put together.
-    Reduce,
-}
 
 /// The stages that carry out a query.
 #[derive(Drop)]
@@ -165,7 +155,7 @@ fn put_unions(unions: &[TypedUnion], kinds: &mut Vec<StageKind>) -> Result<(), N
 }
 
 #[cycle(stages)]
-#[tactic(auto, unfolding(crate::specs::Stages::stages_of))]
+#[tactic(auto, unfolding(hv_typing::specs::Stages::stages_of))]
 fn put_query(query: &TypedQuery, kinds: &mut Vec<StageKind>) -> Result<(), NoMemory>
     ensures { OnOk result (kinds.new.items ≡ kinds.old.items ++ stages_of query.now) }
 {

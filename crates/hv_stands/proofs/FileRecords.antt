@@ -11,23 +11,23 @@ use Rattle.std.specs.List.{AllByRecursion}
 use Rattle.std.specs.List.Sorted.{IsStrictlySortedBy}
 use Rattle.hv_base.specs.Identifiers.{row_id_cmp}
 use Rattle.hv_value.specs.declared.row.Row.{Row}
-use Rattle.hv_logic.specs.Rows.{found_cmp}
-use Rattle.hv_logic.specs.declared.catalog.Shape.{Shape}
-use Rattle.hv_logic.specs.declared.effect.Effect.{Effect}
-use Rattle.hv_logic.specs.declared.effect.Found.{Found}
-use Rattle.hv_rowfile.specs.declared.record.Rec.{Rec}
-use Rattle.hv_rowfile.specs.Layout.{RowIsTaken, RecIsTaken, RisesFrom, id_of, CanWrite, IsFile}
+use Rattle.hv_history.specs.hv_meaning.specs.hv_typing.specs.hv_logic.specs.Rows.{found_cmp}
+use Rattle.hv_history.specs.hv_meaning.specs.hv_typing.specs.hv_logic.specs.declared.catalog.Shape.{Shape}
+use Rattle.hv_history.specs.hv_meaning.specs.hv_typing.specs.hv_logic.specs.declared.effect.Effect.{Effect}
+use Rattle.hv_history.specs.hv_meaning.specs.hv_typing.specs.hv_logic.specs.declared.effect.Found.{Found}
+use Rattle.hv_history.specs.hv_meaning.specs.hv_route.specs.hv_rowfile.specs.declared.record.Rec.{Rec}
+use Rattle.hv_history.specs.hv_meaning.specs.hv_route.specs.hv_rowfile.specs.Layout.{RowIsTaken, RecIsTaken, RisesFrom, id_of, CanWrite, IsFile}
 use Rattle.hv_base.specs.Sorting.{sorted_by}
 use Rattle.hv_base.specs.declared.ids.RowId.{RowId}
-use Rattle.hv_route.specs.declared.runs.Run.{Run}
-use Rattle.hv_route.specs.Placing.{placed_cmp, runs_of}
-use Rattle.hv_route.specs.Routes.{stored, numbered_rows, place_of_deleted, file_of_deletes, insert_files, delete_files, files_of}
-use Rattle.hv_route.specs.Rising.{file_cmp}
-use Rattle.hv_route.specs.Standing.{insert_record, delete_record, stands_in, records_in_place, is_file_of, recs_at}
-use Rattle.hv_route.specs.declared.files.OutFile.{OutFile}
-use Rattle.hv_route.proofs.RisingLemmas.{all-files-rise}
-use Rattle.hv_route.proofs.NumberedLemmas.{numbered-all, rows-are-numbered}
-use Rattle.hv_route.proofs.StandingLemmas.{files-have-rows}
+use Rattle.hv_history.specs.hv_meaning.specs.hv_route.specs.declared.runs.Run.{Run}
+use Rattle.hv_history.specs.hv_meaning.specs.hv_route.specs.Placing.{placed_cmp, runs_of}
+use Rattle.hv_history.specs.hv_meaning.specs.hv_route.specs.Routes.{stored, numbered_rows, place_of_deleted, file_of_deletes, insert_files, delete_files, files_of}
+use Rattle.hv_history.specs.hv_meaning.specs.hv_route.specs.Rising.{file_cmp}
+use Rattle.hv_history.specs.hv_meaning.specs.hv_route.specs.Standing.{insert_record, delete_record, stands_in, records_in_place, is_file_of, recs_at}
+use Rattle.hv_history.specs.hv_meaning.specs.hv_route.specs.declared.files.OutFile.{OutFile}
+use Rattle.hv_history.specs.hv_meaning.specs.hv_route.proofs.RisingLemmas.{all-files-rise}
+use Rattle.hv_history.specs.hv_meaning.specs.hv_route.proofs.NumberedLemmas.{numbered-all, rows-are-numbered}
+use Rattle.hv_history.specs.hv_meaning.specs.hv_route.proofs.StandingLemmas.{files-have-rows}
 use Rattle.hv_history.specs.hv_meaning.specs.Laws.{SaysParts}
 use Rattle.hv_stands.specs.Files.{CanStand, IsEncoded}
 use Rattle.hv_stands.specs.Laws.{CanBeFile, HasFile}

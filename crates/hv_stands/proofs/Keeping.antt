@@ -8,10 +8,10 @@ use Rattle.hv_base.specs.declared.ids.Limits.{Limits}
 use Rattle.hv_base.specs.declared.ids.Touch.{Touch}
 use Rattle.hv_ast.specs.declared.statement.Stmt.{Stmt}
 use Rattle.hv_grammar.specs.Texts.{tree_of}
-use Rattle.hv_logic.specs.declared.catalog.TableInfo.{TableInfo}
-use Rattle.hv_logic.specs.declared.effect.Effect.{Effect}
-use Rattle.hv_logic.specs.declared.meaning.Meaning.{Meaning}
-use Rattle.hv_logic.specs.declared.meaning.Meaning.TheVariants.{Refused, Listing, Change, Make, Unmake, Plain, Twice, RowLimit, PartitionLimit}
+use Rattle.hv_history.specs.hv_meaning.specs.hv_typing.specs.hv_logic.specs.declared.catalog.TableInfo.{TableInfo}
+use Rattle.hv_history.specs.hv_meaning.specs.hv_typing.specs.hv_logic.specs.declared.effect.Effect.{Effect}
+use Rattle.hv_history.specs.hv_meaning.specs.hv_typing.specs.hv_logic.specs.declared.meaning.Meaning.{Meaning}
+use Rattle.hv_history.specs.hv_meaning.specs.hv_typing.specs.hv_logic.specs.declared.meaning.Meaning.TheVariants.{Refused, Listing, Change, Make, Unmake, Ask, Plain, Twice, RowLimit, PartitionLimit}
 use Rattle.hv_history.specs.declared.entry.Entry.{Entry}
 use Rattle.hv_history.specs.declared.entry.Entry.TheVariants as entry
 use Rattle.hv_history.specs.declared.state.Written.{Written}
@@ -167,6 +167,7 @@ module _ (infos : List TableInfo) where
   writes-one (Some (Change info effect)) number t routed = change-writes info effect number t routed (given_in info.table.0 t.given) refl
   writes-one (Some (Make shape)) number t routed = inl refl
   writes-one (Some (Unmake table)) number t routed = inl refl
+  writes-one (Some (Ask table region kind)) number t routed = inl refl
   writes-one (Some Plain) number t routed = inl refl
   writes-one (Some (Twice region row)) number t routed = inl refl
   writes-one (Some RowLimit) number t routed = inl refl
@@ -234,6 +235,7 @@ changes-more infos info (Some (Change of effect)) h =
     record { here = numbered-more infos info of.table.0 of h.here; whole = h.whole; deletes = h.deletes }
 changes-more infos info (Some (Make shape)) h = tt
 changes-more infos info (Some (Unmake table)) h = tt
+changes-more infos info (Some (Ask table region kind)) h = tt
 changes-more infos info (Some Plain) h = tt
 changes-more infos info (Some (Twice region row)) h = tt
 changes-more infos info (Some RowLimit) h = tt

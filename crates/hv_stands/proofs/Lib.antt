@@ -6,6 +6,7 @@ pub mod Places
 pub mod Ordered
 pub mod StandingRows
 pub mod FileRecords
+pub mod SaidRows
 pub mod SeenTables
 pub mod Numbers
 pub mod Owning

@@ -5,7 +5,7 @@ use Rattle.hv_dirs.specs.Names.{write_end}
 use Rattle.hv_dirs.proofs.OwnNames.{behind}
 use Rattle.hv_dirs.proofs.NameLemmas.{own_rest, own-text, kind-same, fixed-parts}
 use Rattle.hv_shelf.specs.declared.place.Place.{Place}
-use Rattle.hv_logic.specs.declared.catalog.Shape.{Shape}
+use Rattle.hv_history.specs.hv_meaning.specs.hv_typing.specs.hv_logic.specs.declared.catalog.Shape.{Shape}
 use Rattle.hv_history.specs.declared.state.Written.{Written}
 use Rattle.hv_stands.specs.Files.{commit_file, own_dir, file_at}
 use Rattle.hv_stands.proofs.Numbers.{none_is, either}

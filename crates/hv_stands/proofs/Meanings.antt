@@ -3,27 +3,27 @@ use Rattle.std.proofs.Common.{◌≡◌, ◌⊎◌, None, slice_get, inl, inr, �
 use Rattle.std.specs.List.{AllByRecursion}
 use Rattle.hv_base.specs.declared.refusal.Refusal.{Refusal}
 use Rattle.hv_ast.specs.declared.statement.Stmt.{Stmt}
-use Rattle.hv_built.specs.Built.{IsBuilt}
+use Rattle.hv_history.specs.hv_built.specs.Built.{IsBuilt}
 use Rattle.hv_value.specs.declared.value.Value.{Value}
-use Rattle.hv_logic.specs.declared.catalog.Column.{Column}
-use Rattle.hv_logic.specs.declared.catalog.TableInfo.{TableInfo}
-use Rattle.hv_logic.specs.declared.effect.Effect.{Effect}
-use Rattle.hv_logic.specs.declared.effect.Found.{Found}
-use Rattle.hv_logic.specs.declared.seen.Seen.{Seen}
-use Rattle.hv_logic.specs.declared.meaning.Meaning.{Meaning}
-use Rattle.hv_logic.specs.declared.meaning.Meaning.TheVariants.{Listing, Change, Twice, RowLimit, PartitionLimit}
-use Rattle.hv_logic.specs.Tables.{named}
-use Rattle.hv_typing.specs.Rows.{Tables, source_frames}
-use Rattle.hv_typing.specs.declared.merge.TypedMerge.{TypedMerge}
-use Rattle.hv_typing.specs.declared.logic.Logic.{Logic}
-use Rattle.hv_typing.specs.declared.logic.Logic.TheVariants as logic
-use Rattle.hv_typing.specs.Analysis.{analysed}
-use Rattle.hv_typing.specs.Columns.{columns_of}
-use Rattle.hv_typing.specs.declared.change.TypedChange.{TypedChange}
+use Rattle.hv_history.specs.hv_meaning.specs.hv_typing.specs.hv_logic.specs.declared.catalog.Column.{Column}
+use Rattle.hv_history.specs.hv_meaning.specs.hv_typing.specs.hv_logic.specs.declared.catalog.TableInfo.{TableInfo}
+use Rattle.hv_history.specs.hv_meaning.specs.hv_typing.specs.hv_logic.specs.declared.effect.Effect.{Effect}
+use Rattle.hv_history.specs.hv_meaning.specs.hv_typing.specs.hv_logic.specs.declared.effect.Found.{Found}
+use Rattle.hv_history.specs.hv_meaning.specs.hv_typing.specs.hv_logic.specs.declared.seen.Seen.{Seen}
+use Rattle.hv_history.specs.hv_meaning.specs.hv_typing.specs.hv_logic.specs.declared.meaning.Meaning.{Meaning}
+use Rattle.hv_history.specs.hv_meaning.specs.hv_typing.specs.hv_logic.specs.declared.meaning.Meaning.TheVariants.{Listing, Change, Twice, RowLimit, PartitionLimit}
+use Rattle.hv_history.specs.hv_meaning.specs.hv_typing.specs.hv_logic.specs.Tables.{named}
+use Rattle.hv_history.specs.hv_meaning.specs.hv_typing.specs.Rows.{Tables, source_frames}
+use Rattle.hv_history.specs.hv_meaning.specs.hv_typing.specs.declared.merge.TypedMerge.{TypedMerge}
+use Rattle.hv_history.specs.hv_meaning.specs.hv_typing.specs.declared.logic.Logic.{Logic}
+use Rattle.hv_history.specs.hv_meaning.specs.hv_typing.specs.declared.logic.Logic.TheVariants as logic
+use Rattle.hv_history.specs.hv_meaning.specs.hv_typing.specs.Analysis.{analysed}
+use Rattle.hv_history.specs.hv_meaning.specs.hv_typing.specs.Columns.{columns_of}
+use Rattle.hv_history.specs.hv_meaning.specs.hv_typing.specs.declared.change.TypedChange.{TypedChange}
 use Rattle.hv_base.specs.declared.ids.Touch.{Touch}
-use Rattle.hv_route.specs.Touching.{touched}
-use Rattle.hv_route.specs.declared.fault.RouteFault.{RouteFault}
-use Rattle.hv_route.specs.declared.fault.RouteFault.TheVariants as route_fault
+use Rattle.hv_history.specs.hv_meaning.specs.hv_route.specs.Touching.{touched}
+use Rattle.hv_history.specs.hv_meaning.specs.hv_route.specs.declared.fault.RouteFault.{RouteFault}
+use Rattle.hv_history.specs.hv_meaning.specs.hv_route.specs.declared.fault.RouteFault.TheVariants as route_fault
 use Rattle.hv_history.specs.hv_meaning.specs.Meaning.{info_of, found_in, tables_of, or_none, stored_row, change_effect, changed_in, twice_or, merged_in, unless_limited, meant, meaning_over, meaning_in, meaning_of}
 use Rattle.hv_history.specs.hv_meaning.specs.Merging.{twice_found, merge_effect}
 use Rattle.hv_history.specs.hv_meaning.specs.Laws.{MeansSomething, AreOf, IsRowOf, FitsTable}
@@ -116,8 +116,10 @@ alike infos found others (Ok (logic.Merge merge)) =
     merged-alike (slice_get infos merge.table) (slice_get found merge.table) (slice_get others merge.table) (tables_of found) (tables_of others) merge
 alike infos found others (Ok (logic.Make shape)) = inl refl
 alike infos found others (Ok (logic.Unmake table)) = inl refl
+alike infos found others (Ok (logic.Ask ask)) = inl refl
 alike infos found others (Ok logic.Nothing) = inl refl
 alike infos found others (Ok (logic.Describe columns)) = inl refl
+alike infos found others (Ok (logic.Explain query)) = inl refl
 alike infos found others (Err why) = inl refl
 
 pub same-or-rows : (tree : Stmt) (tables others : List Seen) → map info_of tables ≡ map info_of others

@@ -9,20 +9,20 @@ use Rattle.std.specs.FinMap as tree
 use Rattle.hv_shelf.specs.declared.place.Place.{Place}
 use Rattle.hv_shelf.specs.Disk.{Tree}
 use Rattle.hv_shelf.specs.Places.{place_cmp, place_total}
-use Rattle.hv_logic.specs.Rows.{found_cmp}
-use Rattle.hv_logic.specs.declared.catalog.Shape.{Shape}
-use Rattle.hv_logic.specs.declared.effect.Effect.{Effect}
+use Rattle.hv_history.specs.hv_meaning.specs.hv_typing.specs.hv_logic.specs.Rows.{found_cmp}
+use Rattle.hv_history.specs.hv_meaning.specs.hv_typing.specs.hv_logic.specs.declared.catalog.Shape.{Shape}
+use Rattle.hv_history.specs.hv_meaning.specs.hv_typing.specs.hv_logic.specs.declared.effect.Effect.{Effect}
 use Rattle.hv_history.specs.declared.state.Written.{Written}
 use Rattle.hv_history.specs.State.{written_by}
 use Rattle.hv_dirs.specs.Names.{write_end}
-use Rattle.hv_rowfile.specs.declared.record.Rec.{Rec}
-use Rattle.hv_rowfile.specs.Layout.{file_spelling}
-use Rattle.hv_route.specs.Routes.{files_of}
-use Rattle.hv_route.specs.Rising.{file_cmp}
-use Rattle.hv_route.specs.Standing.{is_file_of, recs_at}
-use Rattle.hv_route.specs.declared.files.OutFile.{OutFile}
-use Rattle.hv_route.proofs.RisingLemmas.{all-files-rise}
-use Rattle.hv_route.proofs.StandingLemmas.{files-have-rows, files-have-records}
+use Rattle.hv_history.specs.hv_meaning.specs.hv_route.specs.hv_rowfile.specs.declared.record.Rec.{Rec}
+use Rattle.hv_history.specs.hv_meaning.specs.hv_route.specs.hv_rowfile.specs.Layout.{file_spelling}
+use Rattle.hv_history.specs.hv_meaning.specs.hv_route.specs.Routes.{files_of}
+use Rattle.hv_history.specs.hv_meaning.specs.hv_route.specs.Rising.{file_cmp}
+use Rattle.hv_history.specs.hv_meaning.specs.hv_route.specs.Standing.{is_file_of, recs_at}
+use Rattle.hv_history.specs.hv_meaning.specs.hv_route.specs.declared.files.OutFile.{OutFile}
+use Rattle.hv_history.specs.hv_meaning.specs.hv_route.proofs.RisingLemmas.{all-files-rise}
+use Rattle.hv_history.specs.hv_meaning.specs.hv_route.proofs.StandingLemmas.{files-have-rows, files-have-records}
 use Rattle.hv_stands.specs.Files.{commit_file, file_of, own_dir, own_place, file_at, place_of_file, with_file, with_files}
 use Rattle.hv_stands.specs.Running.{IsOfId}
 use Rattle.hv_stands.proofs.Numbers.{either}

@@ -4,7 +4,7 @@ use Rattle.std.proofs.lemmas.List.Sums.{fold-append}
 use Rattle.hv_ast.specs.declared.statement.Stmt.{Stmt}
 use Rattle.hv_history.specs.declared.entry.Entry.{Entry}
 use Rattle.hv_history.specs.declared.state.Table.{Table}
-use Rattle.hv_built.specs.Built.{IsBuilt}
+use Rattle.hv_history.specs.hv_built.specs.Built.{IsBuilt}
 use Rattle.hv_history.specs.hv_meaning.specs.Meaning.{meaning_of}
 use Rattle.hv_history.specs.hv_meaning.specs.Laws.{MeansSomething}
 use Rattle.hv_history.specs.Shown.{filled, listed_for}
@@ -22,7 +22,8 @@ use Rattle.hv_stands.proofs.Written.{effect-written}
 use Rattle.hv_stands.proofs.Fitting.{fitting-sound}
 
 pub seeing-enough : SeeingIsEnough
-seeing-enough book said fit = ap (filled (listed_for (state_of book) said)) (reading-enough said (state_of book).tables)
+seeing-enough book said needs fit rows keeps =
+    ap (filled (listed_for (state_of book) said)) (reading-enough needs said (state_of book).tables rows keeps)
 
 -- a statement of a form that is built means something in every state
 pub built-means-in : (state : State) (tree : Stmt) → IsBuilt tree → MeansSomething (means state (Some tree))

@@ -5,25 +5,27 @@ use Rattle.std.specs.List.{flat_map, slice_get, AllByRecursion}
 use Rattle.std.specs.Option.{option_map, option_to_list}
 use Rattle.hv_locks.specs.declared.table.Lock.{Lock}
 use Rattle.hv_ast.specs.declared.statement.Stmt.{Stmt}
-use Rattle.hv_logic.specs.declared.catalog.TableInfo.{TableInfo}
-use Rattle.hv_logic.specs.Names.{names_in}
-use Rattle.hv_history.specs.hv_meaning.specs.Meaning.{info_of, named_by, its_tables, meaning_in, meaning_of}
+use Rattle.hv_history.specs.hv_meaning.specs.hv_typing.specs.hv_logic.specs.declared.catalog.TableInfo.{TableInfo}
+use Rattle.hv_history.specs.hv_meaning.specs.hv_typing.specs.hv_logic.specs.Names.{names_in}
+use Rattle.hv_history.specs.hv_meaning.specs.Meaning.{info_of, found_in, named_by, its_tables, meaning_in, meaning_of}
 use Rattle.hv_value.specs.declared.row.Row.{Row}
-use Rattle.hv_typing.specs.Columns.{columns_of}
-use Rattle.hv_rowfile.specs.Layout.{RowIsTaken}
-use Rattle.hv_route.specs.Routes.{stored}
-use Rattle.hv_route.specs.Touching.{touched, touches_of}
-use Rattle.hv_history.specs.hv_meaning.specs.Laws.{reads_rows}
+use Rattle.hv_history.specs.hv_meaning.specs.hv_typing.specs.Columns.{columns_of}
+use Rattle.hv_history.specs.hv_meaning.specs.hv_route.specs.hv_rowfile.specs.Layout.{RowIsTaken}
+use Rattle.hv_history.specs.hv_meaning.specs.hv_route.specs.Routes.{stored}
+use Rattle.hv_history.specs.hv_meaning.specs.hv_route.specs.Touching.{touched, touches_of}
+use Rattle.hv_history.specs.hv_meaning.specs.Needs.{Needs, AreSaid, KeepMeaning}
 use Rattle.hv_history.specs.hv_meaning.proofs.Meanings.{changes-seen}
-use Rattle.hv_history.specs.hv_meaning.proofs.Unseen.{unseen-in}
+use Rattle.hv_history.specs.hv_meaning.proofs.Narrow.{same-infos, narrow-enough}
 use Rattle.hv_history.specs.declared.state.Table.{Table}
-use Rattle.hv_logic.specs.declared.seen.Seen.{Seen}
-use Rattle.hv_logic.specs.declared.effect.Effect.{Effect}
-use Rattle.hv_logic.specs.declared.meaning.Meaning.TheVariants.{Change}
-use Rattle.hv_history.specs.State.{numbered, seen_table, seen_tables, content_of}
+use Rattle.hv_history.specs.hv_meaning.specs.hv_typing.specs.hv_logic.specs.declared.seen.Seen.{Seen}
+use Rattle.hv_history.specs.hv_meaning.specs.hv_typing.specs.hv_logic.specs.declared.effect.Effect.{Effect}
+use Rattle.hv_history.specs.hv_meaning.specs.hv_typing.specs.hv_logic.specs.declared.meaning.Meaning.TheVariants.{Change}
+use Rattle.hv_history.specs.State.{numbered, seen_table, seen_tables}
 use Rattle.hv_stands.specs.Sound.{NumberedFrom}
-use Rattle.hv_stands.specs.Reading.{table_of_name, named_in, tables_named, seen_of, seen_read}
+use Rattle.hv_history.specs.Legal.{is_named}
+use Rattle.hv_stands.specs.Reading.{table_of_name, named_in, tables_named, seen_read, HasSaidRows}
 use Rattle.hv_stands.proofs.Numbers.{one_value}
+use Rattle.hv_stands.proofs.Ordered.{all-joined}
 use Rattle.hv_stands.proofs.Tables.{named-seen, named-numbered, HasTable}
 
 -- ---- the tables that a statement sees are those that it names, with their rows
@@ -42,29 +44,40 @@ seen-named tables (lock ∷ locks) =
 pub its-seen : (tree : Stmt) (tables : List Table) → its_tables tree (seen_tables tables) ≡ map seen_table (tables_named tree tables)
 its-seen tree tables = seen-named tables (names_in tree)
 
--- ---- with their rows, or none where they don't matter
+-- ---- with the rows of the partitions that it needs
 
-same-infos : (tree : Stmt) (tables : List Table) → map info_of (map (seen_of tree) tables) ≡ map info_of (map seen_table tables)
-same-infos tree [] = refl
-same-infos tree (table ∷ tables) = ap (λ (infos : List TableInfo). table.info ∷ infos) (same-infos tree tables)
+said-named : (tables : List Table) → AllByRecursion HasSaidRows tables → AreSaid (map info_of (map seen_table tables)) (map found_in (map seen_table tables))
+said-named [] said = tt
+said-named (table ∷ tables) said = (said.0, said-named tables said.1)
 
-whole-rows : (tree : Stmt) (tables : List Table) → reads_rows tree ≡ true → map (seen_of tree) tables ≡ map seen_table tables
-whole-rows tree [] reads = refl
-whole-rows tree (table ∷ tables) reads =
-    λ i. record { info = table.info; rows = cond (reads i) (content_of table.writes) [] } ∷ whole-rows tree tables reads i
+-- of each table that it names
+table-said : (name : List ℕ) (tables : List Table) → AllByRecursion HasSaidRows tables → AllByRecursion HasSaidRows (option_to_list (table_of_name name tables))
+table-said name [] said = tt
+table-said name (table ∷ tables) said = by (is_named name table) (table-said name tables said.1)
+  where
+    by : (b : Bool) → AllByRecursion HasSaidRows (option_to_list (table_of_name name tables))
+        → AllByRecursion HasSaidRows (option_to_list (cond b (Some table) (table_of_name name tables)))
+    by true rest = (said.0, tt)
+    by false rest = rest
 
-read-alike : (tree : Stmt) (tables : List Table) (b : Bool) → reads_rows tree ≡ b
-    → meaning_in tree (map (seen_of tree) tables) ≡ meaning_in tree (map seen_table tables)
-read-alike tree tables true reads = ap (meaning_in tree) (whole-rows tree tables reads)
-read-alike tree tables false reads = unseen-in tree (map (seen_of tree) tables) (map seen_table tables) reads (same-infos tree tables)
+locks-said : (tables : List Table) → AllByRecursion HasSaidRows tables → (locks : List Lock) → AllByRecursion HasSaidRows (flat_map (named_in tables) locks)
+locks-said tables said [] = tt
+locks-said tables said (lock ∷ locks) =
+    all-joined HasSaidRows (named_in tables lock) (flat_map (named_in tables) locks) (table-said lock.name tables said) (locks-said tables said locks)
 
-pub reading-enough : (tree : Stmt) (tables : List Table) → meaning_in tree (seen_read tree tables) ≡ meaning_of (seen_tables tables) tree
-reading-enough tree tables =
-    read-alike tree (tables_named tree tables) (reads_rows tree) refl ∙ ap (meaning_in tree) (sym (its-seen tree tables))
+-- the descriptions of the tables that a statement names
+abbrev pub infos_named : Stmt → List Table → List TableInfo
+infos_named tree tables = map info_of (map seen_table (tables_named tree tables))
+
+pub reading-enough : (needs : Needs) (tree : Stmt) (tables : List Table) → AllByRecursion HasSaidRows tables → KeepMeaning tree (infos_named tree tables) needs
+    → meaning_in tree (seen_read needs tree tables) ≡ meaning_of (seen_tables tables) tree
+reading-enough needs tree tables said keeps =
+    narrow-enough tree (map seen_table (tables_named tree tables)) needs (said-named (tables_named tree tables) (locks-said tables said (names_in tree))) keeps
+    ∙ ap (meaning_in tree) (sym (its-seen tree tables))
 
 -- what is read has the descriptions of what is seen
-pub read-infos : (tree : Stmt) (tables : List Table) → map info_of (seen_read tree tables) ≡ map info_of (its_tables tree (seen_tables tables))
-read-infos tree tables = same-infos tree (tables_named tree tables) ∙ ap (map info_of) (sym (its-seen tree tables))
+pub read-infos : (needs : Needs) (tree : Stmt) (tables : List Table) → map info_of (seen_read needs tree tables) ≡ map info_of (its_tables tree (seen_tables tables))
+read-infos needs tree tables = same-infos needs (map seen_table (tables_named tree tables)) ∙ ap (map info_of) (sym (its-seen tree tables))
 
 -- ---- a description among those of the tables that a statement names is that of one of the book's tables
 

@@ -3,8 +3,8 @@ use Rattle.std.proofs.Common.{◌≡◌, ℕ, zero, suc, ◌+◌, ◌<◌, Some,
 use Rattle.std.specs.List.{slice_get, AllByRecursion}
 use Rattle.hv_history.specs.declared.state.Table.{Table}
 use Rattle.hv_history.specs.State.{numbered, changed, changed_at, owned}
-use Rattle.hv_logic.specs.declared.catalog.TableInfo.{TableInfo}
-use Rattle.hv_route.specs.Back.{AreFlat}
+use Rattle.hv_history.specs.hv_meaning.specs.hv_typing.specs.hv_logic.specs.declared.catalog.TableInfo.{TableInfo}
+use Rattle.hv_history.specs.hv_meaning.specs.hv_route.specs.Back.{AreFlat}
 use Rattle.hv_stands.specs.Sound.{HasFlatParts, NumberedFrom, HasSoundWrites, HasFewOwners, AreSound}
 
 -- ---- what holds of all

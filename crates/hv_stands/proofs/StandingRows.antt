@@ -9,12 +9,12 @@ use Rattle.std.specs.FinMap.{nat_cmp-IsAntisymmetric}
 use Rattle.std.specs.List.{flat_map, AllByRecursion}
 use Rattle.std.specs.List.Sorted.{IsStrictlySortedBy}
 use Rattle.hv_base.specs.Identifiers.{row_id_cmp, row_id_total}
-use Rattle.hv_logic.specs.Rows.{found_cmp}
-use Rattle.hv_logic.specs.declared.catalog.Shape.{Shape}
-use Rattle.hv_logic.specs.declared.effect.Found.{Found}
-use Rattle.hv_route.specs.Routes.{numbered_rows}
-use Rattle.hv_route.specs.Rising.{IsNumbered}
-use Rattle.hv_route.proofs.NumberedLemmas.{rows-are-numbered}
+use Rattle.hv_history.specs.hv_meaning.specs.hv_typing.specs.hv_logic.specs.Rows.{found_cmp}
+use Rattle.hv_history.specs.hv_meaning.specs.hv_typing.specs.hv_logic.specs.declared.catalog.Shape.{Shape}
+use Rattle.hv_history.specs.hv_meaning.specs.hv_typing.specs.hv_logic.specs.declared.effect.Found.{Found}
+use Rattle.hv_history.specs.hv_meaning.specs.hv_route.specs.Routes.{numbered_rows}
+use Rattle.hv_history.specs.hv_meaning.specs.hv_route.specs.Rising.{IsNumbered}
+use Rattle.hv_history.specs.hv_meaning.specs.hv_route.proofs.NumberedLemmas.{rows-are-numbered}
 use Rattle.hv_value.specs.declared.row.Row.{Row}
 use Rattle.hv_history.specs.declared.state.Written.{Written}
 use Rattle.hv_history.specs.State.{content_of, is_deleted}

@@ -2,15 +2,15 @@
 use Rattle.std.proofs.Common.{◌≡◌, ℕ, ◌≤◌, length, Option, Some, None, List, map, option_map, refl, sym, ap, ◌∙◌, subst}
 use Rattle.std.specs.List.{AllByRecursion}
 use Rattle.hv_ast.specs.declared.statement.Stmt.{Stmt}
-use Rattle.hv_logic.specs.Rows.{found_cmp}
-use Rattle.hv_logic.specs.declared.catalog.TableInfo.{TableInfo}
-use Rattle.hv_logic.specs.declared.effect.Effect.{Effect}
-use Rattle.hv_logic.specs.declared.effect.Found.{Found}
-use Rattle.hv_logic.specs.declared.meaning.Meaning.{Meaning}
-use Rattle.hv_logic.specs.declared.meaning.Meaning.TheVariants.{Refused, Listing, Change, Make, Unmake, Plain, Twice, RowLimit, PartitionLimit}
-use Rattle.hv_typing.specs.Columns.{columns_of}
-use Rattle.hv_route.specs.Back.{AreFlat, AreHeld}
-use Rattle.hv_route.specs.Routes.{files_of}
+use Rattle.hv_history.specs.hv_meaning.specs.hv_typing.specs.hv_logic.specs.Rows.{found_cmp}
+use Rattle.hv_history.specs.hv_meaning.specs.hv_typing.specs.hv_logic.specs.declared.catalog.TableInfo.{TableInfo}
+use Rattle.hv_history.specs.hv_meaning.specs.hv_typing.specs.hv_logic.specs.declared.effect.Effect.{Effect}
+use Rattle.hv_history.specs.hv_meaning.specs.hv_typing.specs.hv_logic.specs.declared.effect.Found.{Found}
+use Rattle.hv_history.specs.hv_meaning.specs.hv_typing.specs.hv_logic.specs.declared.meaning.Meaning.{Meaning}
+use Rattle.hv_history.specs.hv_meaning.specs.hv_typing.specs.hv_logic.specs.declared.meaning.Meaning.TheVariants.{Refused, Listing, Change, Make, Unmake, Ask, Plain, Twice, RowLimit, PartitionLimit}
+use Rattle.hv_history.specs.hv_meaning.specs.hv_typing.specs.Columns.{columns_of}
+use Rattle.hv_history.specs.hv_meaning.specs.hv_route.specs.Back.{AreFlat, AreHeld}
+use Rattle.hv_history.specs.hv_meaning.specs.hv_route.specs.Routes.{files_of}
 use Rattle.hv_history.specs.hv_meaning.specs.Meaning.{meaning_of}
 use Rattle.hv_history.specs.declared.state.Table.{Table}
 use Rattle.hv_history.specs.declared.state.Written.{Written}
@@ -80,6 +80,7 @@ changes-among s tree sound = by (means s (Some tree)) refl
         }
     by (Some (Make shape)) is = tt
     by (Some (Unmake table)) is = tt
+    by (Some (Ask table region kind)) is = tt
     by (Some Plain) is = tt
     by (Some (Twice region row)) is = tt
     by (Some RowLimit) is = tt

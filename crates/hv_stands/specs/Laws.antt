@@ -1,9 +1,9 @@
 -- What is proved of entries over any state, whatever transactions are open; and which files can be written.
 use Rattle.std.specs.Prelude.{ℕ, ◌+◌, length}
 use Rattle.hv_base.specs.declared.ids.Limits.{Limits}
-use Rattle.hv_logic.specs.declared.effect.Effect.{Effect}
-use Rattle.hv_route.specs.declared.files.OutFile.{OutFile}
-use Rattle.hv_rowfile.specs.Layout.{CanWrite, IsFile}
+use Rattle.hv_history.specs.hv_meaning.specs.hv_typing.specs.hv_logic.specs.declared.effect.Effect.{Effect}
+use Rattle.hv_history.specs.hv_meaning.specs.hv_route.specs.declared.files.OutFile.{OutFile}
+use Rattle.hv_history.specs.hv_meaning.specs.hv_route.specs.hv_rowfile.specs.Layout.{CanWrite, IsFile}
 use Rattle.hv_history.specs.declared.entry.Entry.{Entry}
 use Rattle.hv_history.specs.State.{State, after}
 use Rattle.hv_history.specs.Legal.{Fits}

@@ -1,3 +1,4 @@
+pub use Rattle.hv_history as hv_history
 pub mod Files
 pub mod Sound
 pub mod Reading

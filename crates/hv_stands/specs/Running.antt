@@ -6,10 +6,10 @@ use Rattle.std.specs.FinMap as tree
 use Rattle.hv_shelf.specs.declared.place.Place.{Place}
 use Rattle.hv_shelf.specs.Disk.{Store, Tree}
 use Rattle.hv_ast.specs.declared.statement.Stmt.{Stmt}
-use Rattle.hv_built.specs.Running.{Runs}
-use Rattle.hv_logic.specs.declared.catalog.TableInfo.{TableInfo}
-use Rattle.hv_logic.specs.declared.effect.Effect.{Effect}
-use Rattle.hv_logic.specs.declared.meaning.Meaning.{Meaning}
+use Rattle.hv_history.specs.hv_built.specs.Running.{Runs}
+use Rattle.hv_history.specs.hv_meaning.specs.hv_typing.specs.hv_logic.specs.declared.catalog.TableInfo.{TableInfo}
+use Rattle.hv_history.specs.hv_meaning.specs.hv_typing.specs.hv_logic.specs.declared.effect.Effect.{Effect}
+use Rattle.hv_history.specs.hv_meaning.specs.hv_typing.specs.hv_logic.specs.declared.meaning.Meaning.{Meaning}
 use Rattle.hv_history.specs.declared.entry.Entry.{Entry}
 use Rattle.hv_history.specs.declared.entry.Entry.TheVariants as entry
 use Rattle.hv_history.specs.declared.entry.Cause.{Cause}
@@ -52,9 +52,10 @@ abbrev pub IsOwnCause : Cause → Type 0
 IsOwnCause (cause.Request by) = ⊥
 IsOwnCause why = Unit {0}
 
--- an abort that another transaction asks for is added by that one
+-- an abort that another transaction asks for is added by that one, and a job by the one that asks for it; 0 is nobody
 abbrev pub adder_of : Entry → Option ℕ
 adder_of (entry.Abort txn (cause.Request by)) = Some by.0
+adder_of (entry.Asked job table partition kind by) = Some by
 adder_of event = owner_of event
 
 abbrev pub IsOf : ℕ → Entry → Type 0

@@ -1,6 +1,6 @@
 -- What is proved of a statement on its way through the book, beside any others: what each of its entries leaves, that entries of
 -- others leave it alone, and that its files stand.
-use Rattle.std.specs.Prelude.{◌≡◌, ℕ, ◌+◌, ◌<◌, ◌≤◌, Bool, false, true, Some, None, List, [], ◌∷◌, ◌++◌, length, take}
+use Rattle.std.specs.Prelude.{◌≡◌, ℕ, ◌+◌, ◌<◌, ◌≤◌, Bool, false, true, Some, None, List, [], ◌∷◌, ◌++◌, length, map, take}
 use Rattle.std.specs.List.{AllByRecursion}
 use Rattle.std.specs.FinMap as tree
 use Rattle.hv_base.specs.declared.ids.TableId.{TableId}
@@ -9,24 +9,25 @@ use Rattle.hv_base.specs.declared.ids.Touch.{Touch}
 use Rattle.hv_shelf.specs.declared.place.Place.{Place}
 use Rattle.hv_shelf.specs.Disk.{Store}
 use Rattle.hv_ast.specs.declared.statement.Stmt.{Stmt}
-use Rattle.hv_built.specs.Running.{Runs}
-use Rattle.hv_logic.specs.declared.catalog.TableInfo.{TableInfo}
-use Rattle.hv_logic.specs.declared.effect.Effect.{Effect}
-use Rattle.hv_logic.specs.declared.meaning.Meaning.TheVariants.{Change}
-use Rattle.hv_typing.specs.Columns.{columns_of}
-use Rattle.hv_history.specs.hv_meaning.specs.Meaning.{meaning_in}
-use Rattle.hv_route.specs.Routes.{files_of}
+use Rattle.hv_history.specs.hv_built.specs.Running.{Runs}
+use Rattle.hv_history.specs.hv_meaning.specs.hv_typing.specs.hv_logic.specs.declared.catalog.TableInfo.{TableInfo}
+use Rattle.hv_history.specs.hv_meaning.specs.hv_typing.specs.hv_logic.specs.declared.effect.Effect.{Effect}
+use Rattle.hv_history.specs.hv_meaning.specs.hv_typing.specs.hv_logic.specs.declared.meaning.Meaning.TheVariants.{Change}
+use Rattle.hv_history.specs.hv_meaning.specs.hv_typing.specs.Columns.{columns_of}
+use Rattle.hv_history.specs.hv_meaning.specs.Meaning.{info_of, meaning_in}
+use Rattle.hv_history.specs.hv_meaning.specs.Needs.{Needs, KeepMeaning}
+use Rattle.hv_history.specs.hv_meaning.specs.hv_route.specs.Routes.{files_of}
 use Rattle.hv_history.specs.declared.entry.Entry.{Entry}
 use Rattle.hv_history.specs.declared.entry.Entry.TheVariants as entry
 use Rattle.hv_history.specs.declared.entry.Cause.{Cause}
 use Rattle.hv_history.specs.declared.state.Table.{Table}
 use Rattle.hv_history.specs.Shown.{filled, listed_for}
-use Rattle.hv_history.specs.State.{state_of, nothing_yet, numbered}
+use Rattle.hv_history.specs.State.{state_of, nothing_yet, numbered, seen_table}
 use Rattle.hv_history.specs.Legal.{Fits, AllFit, profile}
 use Rattle.hv_history.specs.Answers.{committed_text, ok_line, cause_text}
 use Rattle.hv_dirs.specs.Names.{write_end}
 use Rattle.hv_stands.specs.Sound.{IsSound}
-use Rattle.hv_stands.specs.Reading.{seen_read}
+use Rattle.hv_stands.specs.Reading.{tables_named, seen_read, HasSaidRows}
 use Rattle.hv_stands.specs.Laws.{CanBeFile}
 use Rattle.hv_stands.specs.Running.{Asking, next_number, opening, starting, meant, snapshot_at, AreNotOf, IsWaiting, IsUnderWay, HasAnswered, IsOfId, HasPut, KeepsGiven}
 
@@ -116,12 +117,13 @@ FittingHasRoom = (book : List Entry) (event : Entry) → AllFitting book → Fit
 
 -- ---- what it sees and changes
 
--- what it means comes of the tables that it names, as they stood at its snapshot, with their rows where it reads rows, and of what a
--- SHOW lists
+-- where the rows that stand are said by their partitions' texts: what it means comes of the tables that it names, as they stood at its
+-- snapshot, with the rows of the partitions that it needs, and of what a SHOW lists
 abbrev pub SeeingIsEnough : Type 0
 SeeingIsEnough =
-    (book : List Entry) (said : Stmt) → AllFitting book
-    → filled (listed_for (state_of book) said) (meaning_in said (seen_read said (state_of book).tables)) ≡ meant book said
+    (book : List Entry) (said : Stmt) (needs : Needs) → AllFitting book → AllByRecursion HasSaidRows (state_of book).tables
+    → KeepMeaning said (map info_of (map seen_table (tables_named said (state_of book).tables))) needs
+    → filled (listed_for (state_of book) said) (meaning_in said (seen_read needs said (state_of book).tables)) ≡ meant book said
 
 -- the table that it changes was there at its snapshot
 abbrev pub ChangedTableStood : Type 0

@@ -4,10 +4,10 @@ use Rattle.std.specs.Prelude.{ℕ, pos, List, [], ◌∷◌, codes}
 use Rattle.hv_base.specs.declared.ids.RowId.{RowId}
 use Rattle.hv_value.specs.declared.sql_type.SqlType.TheVariants as type
 use Rattle.hv_value.specs.declared.value.Value.TheVariants as value
-use Rattle.hv_logic.specs.declared.catalog.Shape.{Shape}
-use Rattle.hv_logic.specs.declared.effect.Found.{Found}
-use Rattle.hv_rowfile.specs.declared.record.Rec.{Rec}
-use Rattle.hv_rowfile.specs.declared.record.Rec.TheVariants.{Insert, Delete}
+use Rattle.hv_history.specs.hv_meaning.specs.hv_typing.specs.hv_logic.specs.declared.catalog.Shape.{Shape}
+use Rattle.hv_history.specs.hv_meaning.specs.hv_typing.specs.hv_logic.specs.declared.effect.Found.{Found}
+use Rattle.hv_history.specs.hv_meaning.specs.hv_route.specs.hv_rowfile.specs.declared.record.Rec.{Rec}
+use Rattle.hv_history.specs.hv_meaning.specs.hv_route.specs.hv_rowfile.specs.declared.record.Rec.TheVariants.{Insert, Delete}
 use Rattle.hv_history.specs.declared.state.Written.{Written}
 
 abbrev pub shape_by_hand : Shape

@@ -44,7 +44,7 @@ pub fn fitting_books()
     ensures room { FittingHasRoom }
 {}
 
-/// The tables that a statement names, with their rows where it reads rows, are all that it has to see. What it changes is a
+/// The tables that a statement names, with the rows of the partitions that it needs, are all that it has to see. What it changes is a
 /// table of its snapshot, which stays, and the rows of the change fit row files.
 pub fn seeing_is_enough()
     ensures seeing { SeeingIsEnough }

@@ -1,6 +1,8 @@
 //! What entries leave of transactions, tables and files, and a statement on its way through the book.
 #![tactic(auto)]
 
+pub use hv_history;
+
 mod laws;
 
 pub use laws::{

@@ -4,7 +4,7 @@ use Rattle.std.specs.Prelude.{true, false, IfOk}
 use Rattle.std.specs.List.{AllByRecursion}
 use Rattle.hv_shelf.specs.Disk.{Store}
 use Rattle.hv_logic.specs.declared.meaning.Meaning.{Meaning}
-use Rattle.hv_logic.specs.declared.meaning.Meaning.TheVariants.{Refused, Listing, Change, Make, Unmake, Plain, Twice, RowLimit, PartitionLimit}
+use Rattle.hv_logic.specs.declared.meaning.Meaning.TheVariants.{Refused, Listing, Change, Make, Unmake, Ask, Plain, Twice, RowLimit, PartitionLimit}
 use Rattle.hv_ast.specs.declared.statement.Stmt.{Stmt}
 use Rattle.hv_history.specs.declared.entry.Entry.{Entry}
 use Rattle.hv_history.specs.Asking.{numbers_in}
@@ -17,7 +17,7 @@ use Rattle.hv_table_reader.specs.hv_acts.specs.declared.told.ToldHouse.{ToldHous
 use Rattle.hv_table_reader.specs.hv_acts.specs.hv_telling.specs.hv_house.specs.declared.fault.HouseFault.{HouseFault}
 use Rattle.hv_table_reader.specs.hv_acts.specs.Told.{trail_in}
 use Rattle.hv_table_reader.specs.hv_acts.specs.Meant.{IsNoEnd}
-use Rattle.hv_table_reader.specs.hv_acts.specs.Passing.{AllPassed, HasAskedAll}
+use Rattle.hv_table_reader.specs.hv_acts.specs.Passing.{AllPassed, HasPassedAll}
 use Rattle.hv_steps.specs.declared.ready.Way.{Way}
 use Rattle.hv_steps.specs.declared.reply.Asked.{Asked}
 use Rattle.hv_steps.specs.declared.reply.Asked.TheVariants as asked
@@ -141,26 +141,28 @@ plain-is Plain e = refl
 plain-is other e = cc
 
 -- one that comes to something else has nothing to ask for
-pub unasked-all : (trail : List TrailItem) (way : Way) (said : Stmt) (m : Meaning) → is_plain m ≡ false → HasAskedAll trail way.txn way.place said m
+pub unasked-all : (trail : List TrailItem) (way : Way) (said : Stmt) (m : Meaning) → is_plain m ≡ false → HasPassedAll trail way.txn way.place said m
 unasked-all trail way said Plain e = cc
 unasked-all trail way said (Refused why) e = tt
 unasked-all trail way said (Listing names rows) e = tt
 unasked-all trail way said (Change info effect) e = tt
 unasked-all trail way said (Make shape) e = tt
 unasked-all trail way said (Unmake table) e = tt
+unasked-all trail way said (Ask table partition kind) e = tt
 unasked-all trail way said (Twice partition row) e = tt
 unasked-all trail way said RowLimit e = tt
 unasked-all trail way said PartitionLimit e = tt
 
 -- where nothing else is asked of it, nothing is
 pub asked-all : (trail : List TrailItem) (way : Way) (said : Stmt) (m : Meaning) → AllPassed trail way.txn way.place (numbers_in (Some said))
-    → HasAskedAll trail way.txn way.place said m
+    → HasPassedAll trail way.txn way.place said m
 asked-all trail way said Plain passed = passed
 asked-all trail way said (Refused why) passed = tt
 asked-all trail way said (Listing names rows) passed = tt
 asked-all trail way said (Change info effect) passed = tt
 asked-all trail way said (Make shape) passed = tt
 asked-all trail way said (Unmake table) passed = tt
+asked-all trail way said (Ask table partition kind) passed = tt
 asked-all trail way said (Twice partition row) passed = tt
 asked-all trail way said RowLimit passed = tt
 asked-all trail way said PartitionLimit passed = tt

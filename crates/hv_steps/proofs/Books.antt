@@ -64,7 +64,7 @@ pub fit-behind : (s : State) (book more : List Entry) → AllFit profile s (book
 fit-behind s [] more fit = fit
 fit-behind s (event ∷ book) more fit = fit-behind (after s event) book more fit.1
 
-fit-from : (s : State) (book more : List Entry) → AllFit profile s book → AllFit profile (fold after s book) more → AllFit profile s (book ++ more)
+pub fit-from : (s : State) (book more : List Entry) → AllFit profile s book → AllFit profile (fold after s book) more → AllFit profile s (book ++ more)
 fit-from s [] more fit next = next
 fit-from s (e ∷ book) more fit next = (fit.0, fit-from (after s e) book more fit.1 next)
 

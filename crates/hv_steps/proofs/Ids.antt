@@ -1,17 +1,19 @@
 -- A write id that is taken for a change, or the abort where there is no room for it.
 use Rattle.std.proofs.Common.{◌≡◌, ℕ, ◌+◌, ◌≤◌, ◌<◌, true, Option, Some, None, List, [], ◌∷◌, ◌++◌, length, take, refl, sym, ap, ◌∙◌, subst, arith}
 use Rattle.std.specs.Prelude.{IsSomeAnd, IsTrue}
+use Rattle.std.proofs.lemmas.List.{length-append}
 use Rattle.hv_base.specs.declared.ids.RowId.{RowId}
 use Rattle.hv_base.specs.declared.ids.TxnId.{TxnId}
 use Rattle.hv_base.specs.declared.ids.TableId.{TableId}
 use Rattle.hv_base.specs.declared.ids.WriteId.{WriteId}
 use Rattle.hv_shelf.specs.Disk.{Store}
 use Rattle.hv_ast.specs.declared.statement.Stmt.{Stmt}
+use Rattle.hv_ast.specs.declared.table.CompactionKind.{CompactionKind}
 use Rattle.hv_dirs.specs.Names.{write_end}
 use Rattle.hv_logic.specs.declared.catalog.TableInfo.{TableInfo}
 use Rattle.hv_logic.specs.declared.effect.Effect.{Effect}
 use Rattle.hv_logic.specs.declared.meaning.Meaning.{Meaning}
-use Rattle.hv_logic.specs.declared.meaning.Meaning.TheVariants.{Change, Twice}
+use Rattle.hv_logic.specs.declared.meaning.Meaning.TheVariants.{Change, Ask, Twice}
 use Rattle.hv_meaning.specs.Laws.{MeansSomething}
 use Rattle.hv_history.specs.declared.entry.Entry.{Entry}
 use Rattle.hv_history.specs.declared.entry.Entry.TheVariants as entry
@@ -50,7 +52,7 @@ use Rattle.hv_steps.proofs.Standing.{some-more, means-still, abort-answered}
 use Rattle.hv_steps.proofs.Touched.{found-given}
 use Rattle.hv_steps.specs.Going.{WasOnWay}
 use Rattle.hv_steps.specs.Phases.{ComesTo}
-use Rattle.hv_steps.specs.Preparing.{ComesToChange}
+use Rattle.hv_steps.specs.Preparing.{ComesToChange, ComesToJob}
 use Rattle.hv_steps.proofs.Joining.{front-itself, front-more, book-front}
 
 -- ---- what it means
@@ -78,6 +80,32 @@ way-means trail asking way said means was is = record {
         ∙ is;
   };
 }
+
+-- as what it meant at its Start
+abbrev pub MeansAt : List TrailItem → Way → Meaning → Type 0
+MeansAt trail way means = (has : HasMeant trail way.txn [] means) × (has.was.place ≡ way.place)
+
+pub way-means-at : (trail : List TrailItem) (asking : Asking) (way : Way) (said : Stmt) (means : Meaning) → WasOnWay trail asking way said
+    → meant (take way.place (book_of trail)) said ≡ Some means → MeansAt trail way means
+unfolding way-means
+way-means-at trail asking way said means was is = (way-means trail asking way said means was is, refl)
+
+pub means-at-lasts : (before now : List TrailItem) → IsFront before now → (way : Way) (means : Meaning) → MeansAt before way means → MeansAt now way means
+unfolding meant-lasts
+means-at-lasts before now front way means has = (meant-lasts before now front way.txn [] means has.0, has.1)
+
+-- its Start stands in the book
+pub early-on : (trail : List TrailItem) (asking : Asking) (way : Way) (said : Stmt) → WasOnWay trail asking way said → way.place < length (book_of trail)
+early-on trail asking way said was =
+    let early = was.was.early in
+    let longer : length (book_of trail) ≡ length (book_of was.then_) + length (book_of was.front.more) =
+    ap length (book-front was.then_ trail was.front) ∙ length-append (book_of was.then_) (book_of was.front.more) in
+    omega (arith, early, longer)
+
+pub on-lasts : (before now : List TrailItem) → IsFront before now → (asking : Asking) (way : Way) (said : Stmt) → WasOnWay before asking way said
+    → WasOnWay now asking way said
+on-lasts before now front asking way said was =
+    record { then_ = was.then_; front = front-more was.then_ before now was.front front; was = was.was }
 
 some-of : (o : Option Meaning) → MeansSomething o → (means : Meaning) × (o ≡ Some means)
 some-of None is = absurd is
@@ -119,6 +147,18 @@ comes-change told house asking way said m info effect was comes same = record {
 pub comes-short : {D : Type 0} (told : D → Option Store) (house : ToldHouse D) (way : Way) (said : Stmt) (m : Meaning) (partition : List ℕ) (row : RowId)
     → ComesTo told house way said m → m ≡ Twice partition row → length partition ≤ 240
 comes-short told house way said m partition row comes same = subst (CanEnd (book_in house)) same comes.can
+
+-- a compaction can be asked for
+pub comes-job : {D : Type 0} (told : D → Option Store) (house : ToldHouse D) (asking : Asking) (way : Way) (said : Stmt) (m : Meaning) (table : TableId) (partition : List ℕ)
+    (kind : CompactionKind) → WasOnWay (trail_in house) asking way said → ComesTo told house way said m → m ≡ Ask table partition kind
+    → ComesToJob told house way table partition kind
+comes-job told house asking way said m table partition kind was comes same = record {
+  asking = asking;
+  said = said;
+  was = was;
+  short = subst (CanEnd (book_in house)) same comes.can;
+  truly = λ is. comes.truly is ∙ ap (λ (x : Meaning). Some x) same;
+}
 
 -- ---- a write id
 

@@ -13,7 +13,7 @@ use Rattle.hv_stands.specs.Running.{Asking, IsOf, AreOf, IsWaiting, IsUnderWay}
 use Rattle.hv_trail.specs.declared.trail.TrailItem.{TrailItem}
 use Rattle.hv_trail.specs.Trail.{book_of}
 use Rattle.hv_trail.specs.Own.{IsOf as IsMine}
-use Rattle.hv_trail.specs.Steps.{HouseSeen, Call, Note, Begin, Commit, Put, Remove, Read, Ask, Outcome, Done, Conflict, Failed, Closed, Refused, MayEnd, Counts, gains, shuts}
+use Rattle.hv_trail.specs.Steps.{HouseSeen, Call, Note, Begin, Commit, Put, Remove, Publish, Read, Ask, Outcome, Done, Conflict, Failed, Closed, Starved, Refused, MayEnd, Counts, gains, shuts}
 use Rattle.hv_trail.proofs.LastingLaws.{book-append, goes-on-front}
 use Rattle.hv_actor.specs.Acting.{IsLater, Held, Went, AreRows, among, known}
 use Rattle.hv_actor.specs.Rows.{later_itself}
@@ -27,9 +27,9 @@ use Rattle.hv_table_reader.specs.hv_acts.specs.declared.fault.ActFault.{ActFault
 use Rattle.hv_table_reader.specs.hv_acts.specs.declared.fault.ActFault.TheVariants as act
 use Rattle.hv_table_reader.specs.hv_acts.specs.Told.{IsWholeOrClosed, seen_in, trail_in, told_sight}
 use Rattle.hv_table_reader.specs.hv_acts.specs.Answers.{Test, IsWhy, Answers, IsCutShort, FaultLeaves, AnswerLeaves, answer_call, answer_outcome}
-use Rattle.hv_table_reader.specs.hv_acts.proofs.Leaves.{answer-rises}
+use Rattle.hv_table_reader.specs.hv_acts.specs.Laters.{answer-rises}
 use Rattle.hv_table_reader.specs.hv_acts.proofs.Mine.{all-mine}
-use Rattle.hv_table_reader.proofs.Holds.{open-behind, ShutsRisen}
+use Rattle.hv_table_reader.proofs.Holds.{open-behind, starved-on, ShutsRisen}
 use Rattle.hv_steps.proofs.Books.{all-map as all-as}
 use Rattle.hv_steps.specs.Ending.{KeepsCount}
 use Rattle.hv_table_reader.specs.hv_acts.specs.Meant.{IsNoEnd}
@@ -87,6 +87,7 @@ gains-closed (Begin txn session number text) = refl
 gains-closed (Commit txn wrote) = refl
 gains-closed (Put by place bytes) = refl
 gains-closed (Remove by dir) = refl
+gains-closed (Publish renames event) = refl
 gains-closed (Read by) = refl
 gains-closed Ask = refl
 
@@ -96,6 +97,7 @@ gains-refused (Begin txn session number text) = refl
 gains-refused (Commit txn wrote) = refl
 gains-refused (Put by place bytes) = refl
 gains-refused (Remove by dir) = refl
+gains-refused (Publish renames event) = refl
 gains-refused (Read by) = refl
 gains-refused Ask = refl
 
@@ -112,6 +114,7 @@ count-on Done before now counts rises = counts
 count-on (Conflict by table partition) before now counts rises = counts
 count-on (Failed count) before now counts rises = rises
 count-on Closed before now counts rises = counts
+count-on Starved before now counts rises = counts
 count-on Refused before now counts rises = counts
 
 -- no call on files failed
@@ -199,7 +202,8 @@ module _ {D : Type 0} (told : D → Option Store) (faults : D → ℕ) (meanwhil
         rest = held.step.rest;
         count = count-on outcome (faults_in faults held.house) (faults_in faults now) held.step.counts rises;
         closed = λ shut. held.step.closed ∙ ap (λ (b : Bool). b || shuts outcome) shut;
-        rises = shut_so;
+        starved = starved-on outcome (seen_in held.house).starved (seen_in now).starved held.step.starved;
+        rises = λ was is fed. shut_so was is;
       })
 
   -- what it added is its own
@@ -232,7 +236,7 @@ module _ {D : Type 0} (told : D → Option Store) (faults : D → ℕ) (meanwhil
         house = held.house;
         kept = held.kept;
         was = e;
-        is = held.step.closed ∙ ap (λ (b : Bool). b || true) e;
+        is = (held.step.closed ∙ ap (λ (b : Bool). b || true) e, held.step.starved ∙ (held.kept.whole e).ready.kept.fed);
         same = stays (trail_in held.house) (trail_in now) (gains (call (seen_in held.house)) Closed) held.step.trail (gains-closed (call (seen_in held.house)));
         cut = cut e;
       })

@@ -6,13 +6,16 @@ pub mod FileActs
 pub mod Gone
 pub mod IdActs
 pub mod Ids
+pub mod JobActs
 pub mod Joining
 pub mod Looks
 pub mod Parts
 pub mod Replied
 pub mod Requests
 pub mod SeenMeanings
+pub mod SaidFronts
 pub mod SeenNames
+pub mod SeenRows
 pub mod Shorts
 pub mod Standing
 pub mod Touched

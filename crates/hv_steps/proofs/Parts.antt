@@ -1,6 +1,7 @@
 -- A statement that is prepared over an actor: it is ready, or it ended on the way.
 use Rattle.std.proofs.Common.{◌≡◌, ◌⊎◌, inl, inr, ℕ, ◌≤◌, ◌<◌, Option, Some, None, List, [], ◌∷◌, ◌++◌, refl, sym, ap, ◌∙◌, subst, append-nil, Ok, Err, Result}
 use Rattle.std.specs.Prelude.{IfOk}
+use Rattle.std.specs.List.{AllByRecursion}
 use Rattle.hv_base.specs.declared.ids.TableId.{TableId}
 use Rattle.hv_base.specs.declared.ids.TxnId.{TxnId}
 use Rattle.hv_base.specs.declared.ids.WriteId.{WriteId}
@@ -10,11 +11,13 @@ use Rattle.hv_logic.specs.declared.catalog.Shape.{Shape}
 use Rattle.hv_logic.specs.declared.catalog.TableInfo.{TableInfo}
 use Rattle.hv_logic.specs.declared.effect.Effect.{Effect}
 use Rattle.hv_logic.specs.declared.meaning.Meaning.{Meaning}
-use Rattle.hv_logic.specs.declared.meaning.Meaning.TheVariants.{Change, Make, Unmake}
+use Rattle.hv_logic.specs.declared.meaning.Meaning.TheVariants.{Change, Make, Unmake, Ask}
 use Rattle.hv_route.specs.Touching.{touches_of, touched}
+use Rattle.hv_ast.specs.declared.table.CompactionKind.{CompactionKind}
 use Rattle.hv_history.specs.declared.entry.Entry.{Entry}
 use Rattle.hv_history.specs.declared.entry.Cause.{Cause}
 use Rattle.hv_history.specs.declared.entry.Cause.TheVariants as cause
+use Rattle.hv_history.specs.JobsTrue.{ask_of}
 use Rattle.hv_history.specs.Legal.{TouchesAreMeant}
 use Rattle.hv_history.specs.Answers.{counts_line, committed_text, ok_line}
 use Rattle.hv_stands.specs.Laws.{changes_in}
@@ -29,8 +32,8 @@ use Rattle.hv_table_reader.specs.hv_acts.specs.declared.fault.ActFault.{ActFault
 use Rattle.hv_table_reader.specs.hv_acts.specs.declared.fault.ActFault.TheVariants as act
 use Rattle.hv_table_reader.specs.hv_acts.specs.declared.aborted.Aborted.{Aborted}
 use Rattle.hv_table_reader.specs.hv_acts.specs.Told.{trail_in, book_in}
-use Rattle.hv_table_reader.specs.hv_acts.specs.Passing.{HasAskedAll}
-use Rattle.hv_table_reader.specs.hv_acts.specs.Meant.{HasMeant}
+use Rattle.hv_table_reader.specs.hv_acts.specs.Passing.{HasStood, HasAskedAll}
+use Rattle.hv_table_reader.specs.hv_acts.specs.Meant.{HasMeant, IsNoEnd}
 use Rattle.hv_steps.specs.Ending.{KeepsCount, aborting, giving, idle_end, HasEndedAt}
 use Rattle.hv_steps.specs.declared.ready.Way.{Way}
 use Rattle.hv_steps.specs.declared.ready.End.{End}
@@ -45,10 +48,10 @@ use Rattle.hv_steps.specs.declared.reply.Prepared.{Prepared}
 use Rattle.hv_steps.specs.declared.reply.Prepared.TheVariants as prepared
 use Rattle.hv_steps.specs.Going.{faults_in, IsOpenHouse, AddsOwn, Goes}
 use Rattle.hv_steps.specs.Leaving.{EndsAct}
-use Rattle.hv_steps.specs.Phases.{AbortsFor, IsAbortFor, IsReadyAs, PreparesTo, EndsEarlyFor, IsWriteFault, Prepares, NoCause, CanConclude, CanConcludeIn}
-use Rattle.hv_steps.specs.Preparing.{ended, ended_by, failed_count, aborted_reply, EndsFor, MakesReady, IsFaultOf, HasItsId, IsChangePut, Writes}
+use Rattle.hv_steps.specs.Phases.{AbortsFor, IsAbortFor, IsReadyAs, AsksJob, PreparesTo, EndsEarlyFor, IsWriteFault, Prepares, NoCause, CanConclude, CanConcludeIn}
+use Rattle.hv_steps.specs.Preparing.{ended, ended_by, failed_count, aborted_reply, EndsFor, MakesReady, IsFaultOf, HasItsId, HasJob, IsChangePut, Writes}
 use Rattle.hv_steps.proofs.Joining.{adds-none, adds-front, told-earlier, gains-as, goes-behind, goes-on}
-use Rattle.hv_steps.proofs.Ids.{meant-lasts, given-lasts, table-lasts}
+use Rattle.hv_steps.proofs.Ids.{MeansAt, meant-lasts, given-lasts, table-lasts}
 
 -- ---- aborts, said in another way
 
@@ -68,6 +71,11 @@ early-own : (info : TableInfo) (effect : Effect) (why : Cause) → EndsEarlyFor 
 early-own info effect (cause.Request by) (inl early) = absurd early
 early-own info effect (cause.Request by) (inr memory) = cc
 early-own info effect why is = tt
+
+job-own : (table : TableId) (partition : List ℕ) (kind : CompactionKind) (why : Cause) → EndsEarlyFor (Ask table partition kind) why ⊎ (why ≡ cause.Memory) → IsOwnCause why
+job-own table partition kind (cause.Request by) (inl early) = absurd early
+job-own table partition kind (cause.Request by) (inr memory) = cc
+job-own table partition kind why is = tt
 
 -- behind other entries
 pub aborts-behind : {D : Type 0} (txn : ℕ) (now : ToldHouse D) (first : List Entry) (P : Cause → Type 0) (found : Done) (added : List Entry)
@@ -129,6 +137,37 @@ early-or-lacking : (info : TableInfo) (effect : Effect) (txn low high : ℕ) (wh
     → KeepsCount low high (aborting txn why)
 early-or-lacking info effect txn low high why (inl is) = early-counts info effect txn low high why is
 early-or-lacking info effect txn low high why (inr is) = subst (λ (c : Cause). KeepsCount low high (aborting txn c)) (sym is) tt
+
+job-counts : (table : TableId) (partition : List ℕ) (kind : CompactionKind) (txn low high : ℕ) (why : Cause) → EndsEarlyFor (Ask table partition kind) why
+    → KeepsCount low high (aborting txn why)
+job-counts table partition kind txn low high (cause.ReadFault count) is = absurd is
+job-counts table partition kind txn low high (cause.WriteFault count) is = absurd is
+job-counts table partition kind txn low high why is = tt
+
+job-or-lacking : (table : TableId) (partition : List ℕ) (kind : CompactionKind) (txn low high : ℕ) (why : Cause)
+    → EndsEarlyFor (Ask table partition kind) why ⊎ (why ≡ cause.Memory) → KeepsCount low high (aborting txn why)
+job-or-lacking table partition kind txn low high why (inl is) = job-counts table partition kind txn low high why is
+job-or-lacking table partition kind txn low high why (inr is) = subst (λ (c : Cause). KeepsCount low high (aborting txn c)) (sym is) tt
+
+-- the job that is asked for is its own, and ends nothing
+pub job-of : (txn : ℕ) (table : TableId) (partition : List ℕ) (kind : CompactionKind) (first : List Entry) → AsksJob txn table partition kind first → AllByRecursion (IsOf txn) first
+job-of txn table partition kind first (inl none) = subst (AllByRecursion (IsOf txn)) (sym none) tt
+job-of txn table partition kind first (inr is) = subst (AllByRecursion (IsOf txn)) (sym is.1) (refl, tt)
+
+pub job-unended : (txn : ℕ) (table : TableId) (partition : List ℕ) (kind : CompactionKind) (first : List Entry) → AsksJob txn table partition kind first
+    → AllByRecursion (IsNoEnd txn) first
+job-unended txn table partition kind first (inl none) = subst (AllByRecursion (IsNoEnd txn)) (sym none) tt
+job-unended txn table partition kind first (inr is) = subst (AllByRecursion (IsNoEnd txn)) (sym is.1) (tt, tt)
+
+-- it ended behind what it had asked for
+job-broken : {D : Type 0} (txn : ℕ) (now : ToldHouse D) (table : TableId) (partition : List ℕ) (kind : CompactionKind) (first : List Entry)
+    → AsksJob txn table partition kind first → (found : Done) (more : List Entry) → AbortsFor txn now [] NoCause found more
+    → Prepares txn now (Ask table partition kind) (prepared.Ended found) (first ++ more)
+job-broken txn now table partition kind first (inl none) found more ends =
+    inl (subst (AbortsFor txn now [] (EndsEarlyFor (Ask table partition kind)) found) (ap (λ (xs : List Entry). xs ++ more) (sym none))
+    (aborts-more txn now [] NoCause (EndsEarlyFor (Ask table partition kind)) (λ why never. absurd never) found more ends))
+job-broken txn now table partition kind first (inr is) found more ends =
+    inr (first, is, aborts-behind txn now first NoCause found more ends)
 
 -- ---- parts
 
@@ -362,6 +401,52 @@ module _ {D : Type 0} (told : D → Option Store) (faults : D → ℕ) (B : List
         halted = tt;
       })
 
+  -- ---- its job
+
+  -- behind it, or where another one stood, it is ready to touch nothing
+  pub job-prepares : (low low' : ℕ) (own own' own'' : List ℕ) (a b c : ToldHouse D) (table : TableId) (partition : List ℕ) (kind : CompactionKind) (first : List Entry)
+      (last : End) (result : Result Prepared HouseFault) → low ≤ low' → AsksJob txn table partition kind first
+      → AddsOwn faults B txn (known own a) (known own' b) first → last ≡ idle_end
+      → Goes (among told faults B meanwhile) low' txn (known own' b) (known own'' c) (MakesReady txn b c last ok_line) result
+      → Goes (among told faults B meanwhile) low txn (known own a) (known own'' c) (Prepares txn c (Ask table partition kind)) result
+  job-prepares low low' own own' own'' a b c table partition kind first last result down asks adds e goes =
+      goes-behind faults B rows told meanwhile low low' txn own own' own'' a b c first (MakesReady txn b c last ok_line)
+      (Prepares txn c (Ask table partition kind)) result down adds (job-of txn table partition kind first asks) (job-unended txn table partition kind first asks) by goes
+    where
+      by : (found : Prepared) (more : List Entry) → MakesReady txn b c last ok_line found more → Prepares txn c (Ask table partition kind) found (first ++ more)
+      by (prepared.Ready ready) more is = (
+        subst (AsksJob txn table partition kind) (sym (ap (λ (xs : List Entry). first ++ xs) is.0 ∙ append-nil first)) asks,
+        (is.1.0 ∙ e, is.1.1),
+      )
+      by (prepared.Ended found) more ends = job-broken txn c table partition kind first asks found more ends
+
+  -- or there was no room for it
+  pub job-lacks : (low : ℕ) (own own' : List ℕ) (a b : ToldHouse D) (table : TableId) (partition : List ℕ) (kind : CompactionKind) (aborted : Aborted) (found : Prepared)
+      → AddsOwn faults B txn (known own a) (known own' b) (aborting txn aborted.cause ∷ []) → IsOpenHouse b
+      → IsAbortFor txn b (EndsEarlyFor (Ask table partition kind)) (aborting txn aborted.cause) (aborted_reply aborted) → HasEndedAt (book_in b) txn (Some aborted.at)
+      → found ≡ ended_by aborted
+      → Goes (among told faults B meanwhile) low txn (known own a) (known own' b) (Prepares txn b (Ask table partition kind)) (Ok found)
+  job-lacks low own own' a b table partition kind aborted found adds running abort at is =
+      subst (λ (f : Prepared). Goes (among told faults B meanwhile) low txn (known own a) (known own' b) (Prepares txn b (Ask table partition kind)) (Ok f)) (sym is)
+      (record {
+        done = record {
+          added = aborting txn aborted.cause ∷ [];
+          adds = adds;
+          of_it = (
+            subst (IsOf txn) (sym abort.entry_is) (own-abort (record { 0 = txn }) abort.why (job-own table partition kind abort.why abort.is)),
+            tt,
+          );
+          counts = (
+            subst (KeepsCount low (faults_in faults b)) (sym abort.entry_is)
+                (job-or-lacking table partition kind txn low (faults_in faults b) abort.why abort.is),
+            tt,
+          );
+          is = inl (aborting txn aborted.cause, refl, abort, at);
+          running = running;
+        };
+        halted = tt;
+      })
+
 -- ---- how it can be concluded
 
 -- without a touch
@@ -374,6 +459,15 @@ idle-can told house way meaning text are says meant = (
   inl refl,
   λ is. inl (record { means = meaning; meant_it = (meant is).0; touches = are; none = refl; asked = (meant is).1 }, says),
 )
+
+-- where its job stands
+pub job-can : {D : Type 0} (told : D → Option Store) (house : ToldHouse D) (way : Way) (table : TableId) (partition : List ℕ) (kind : CompactionKind)
+    → HasJob told house way table partition kind → CanConclude told house way idle_end ok_line
+job-can told house way table partition kind job =
+    idle-can told house way (Ask table partition kind) ok_line refl refl
+    (λ is.
+    let has : MeansAt (trail_in house) way (Ask table partition kind) = job.means is in
+    (has.0, subst (λ (place : ℕ). HasStood (trail_in house) place (ask_of table partition kind)) (sym has.1) job.stood))
 
 -- by its Create
 pub make-can : {D : Type 0} (told : D → Option Store) (house : ToldHouse D) (way : Way) (shape : Shape)

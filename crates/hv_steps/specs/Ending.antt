@@ -2,6 +2,7 @@
 -- Source: Hive Transactions (first committer wins); the replies are this project's profile.
 use Rattle.std.specs.Prelude.{◌≡◌, ◌⊎◌, ℕ, ◌+◌, ◌<◌, ◌≤◌, Bool, IsTrue, IsSome, Option, Some, Ok, List, [], ◌∷◌, ◌++◌, length, take}
 use Rattle.std.specs.List.{AllByRecursion}
+use Rattle.hv_base.specs.declared.ids.JobId.{JobId}
 use Rattle.hv_base.specs.declared.ids.TableId.{TableId}
 use Rattle.hv_base.specs.declared.ids.WriteId.{WriteId}
 use Rattle.hv_base.specs.declared.ids.Touch.{Touch}
@@ -11,7 +12,7 @@ use Rattle.hv_ast.specs.declared.statement.Stmt.{Stmt}
 use Rattle.hv_logic.specs.declared.catalog.TableInfo.{TableInfo}
 use Rattle.hv_logic.specs.declared.effect.Effect.{Effect}
 use Rattle.hv_logic.specs.declared.meaning.Meaning.{Meaning}
-use Rattle.hv_logic.specs.declared.meaning.Meaning.TheVariants.{Change, Unmake, Twice}
+use Rattle.hv_logic.specs.declared.meaning.Meaning.TheVariants.{Change, Unmake, Ask, Twice}
 use Rattle.hv_route.specs.Back.{AreHeld}
 use Rattle.hv_route.specs.Routes.{files_of}
 use Rattle.hv_route.specs.Touching.{touches_of, touched}
@@ -20,6 +21,7 @@ use Rattle.hv_history.specs.declared.entry.Entry.{Entry}
 use Rattle.hv_history.specs.declared.entry.Entry.TheVariants as entry
 use Rattle.hv_history.specs.declared.entry.Cause.{Cause}
 use Rattle.hv_history.specs.declared.entry.Cause.TheVariants as cause
+use Rattle.hv_history.specs.declared.entry.JobKind.{JobKind}
 use Rattle.hv_history.specs.declared.state.Table.{Table}
 use Rattle.hv_history.specs.State.{state_of, numbered, given_in}
 use Rattle.hv_history.specs.Legal.{TouchesAreMeant, IsMake, IsLegalFrom, AllFit, Rise, is_touched, profile}
@@ -31,6 +33,7 @@ use Rattle.hv_table_reader.specs.hv_acts.specs.Meant.{places_of_files, IsNoEnd}
 use Rattle.hv_table_reader.specs.hv_acts.specs.hv_telling.specs.hv_house.specs.declared.fault.HouseFault.{HouseFault}
 use Rattle.hv_table_reader.specs.hv_acts.specs.hv_telling.specs.hv_house.specs.declared.house.House.{House}
 use Rattle.hv_table_reader.specs.hv_acts.specs.hv_telling.specs.hv_house.specs.House.{entries_of, IsSmall, Leaves}
+use Rattle.hv_table_reader.specs.hv_acts.specs.hv_telling.specs.Telling.{IsToldHouse}
 use Rattle.hv_steps.specs.declared.ready.Ready.{Ready}
 use Rattle.hv_steps.specs.declared.ready.Reply.{Reply}
 use Rattle.hv_steps.specs.declared.ready.End.{End}
@@ -88,6 +91,10 @@ giving txn table write = entry.Given (record { 0 = txn }) table write
 abbrev pub aborting : ℕ → Cause → Entry
 aborting txn why = entry.Abort (record { 0 = txn }) why
 
+-- the job that this transaction asks for
+abbrev pub job_asked : ℕ → JobId → TableId → List ℕ → JobKind → Entry
+job_asked txn job table partition kind = entry.Asked job table partition kind txn
+
 -- the abort of that one which this transaction asks for
 abbrev pub asking_for : ℕ → ℕ → Entry
 asking_for txn other = entry.Abort (record { 0 = other }) (cause.Request (record { 0 = txn }))
@@ -111,10 +118,11 @@ pub record CanChange (book : List Entry) (info : TableInfo) (effect : Effect) : 
   pub within : touched info effect ≡ Ok (touches_of info effect)
   pub fit : (write : ℕ) → 1 ≤ write → AllByRecursion CanPut (files_of info.shape write 0 effect)
 
--- the partition's text of a MERGE that comes to Twice is short enough for the entry of its abort
+-- the partition's text of a MERGE that comes to Twice is short enough for the entry of its abort, and that of a compaction for its Asked
 abbrev pub CanEnd : List Entry → Meaning → Type 0
 CanEnd book (Change info effect) = CanChange book info effect
 CanEnd book (Twice partition row) = length partition ≤ 240
+CanEnd book (Ask table partition kind) = length partition ≤ 240
 CanEnd book _ = Unit {0}
 
 -- the touches of a commit rise, and are of the table in which its transaction has a write id
@@ -202,12 +210,21 @@ pub record IsAskBy (txn : ℕ) (event : Entry) : Type 0 where
   pub event_is : event ≡ asking_for txn other
   pub apart : other ≡ txn → ⊥
 
-abbrev pub AddsNoneOrId : ℕ → List Entry → Type 0
-AddsNoneOrId txn added = (added ≡ []) ⊎ ((table : TableId) × (write : WriteId) × (added ≡ giving txn table write ∷ []))
+abbrev pub AddsId : ℕ → List Entry → Type 0
+AddsId txn added = (table : TableId) × (write : WriteId) × (added ≡ giving txn table write ∷ [])
+
+abbrev pub AddsJob : ℕ → List Entry → Type 0
+AddsJob txn added =
+    (job : JobId) × (table : TableId) × (partition : List ℕ) × (kind : JobKind)
+    × (added ≡ job_asked txn job table partition kind ∷ [])
+
+-- a write id, or the job that it asks for, or none of these
+abbrev pub AddsNoneOrOne : ℕ → List Entry → Type 0
+AddsNoneOrOne txn added = (added ≡ []) ⊎ (AddsId txn added ⊎ AddsJob txn added)
 
 abbrev pub AddsAbort : ℕ → List Entry → Type 0
 AddsAbort txn added =
-    (first : List Entry) × (why : Cause) × AddsNoneOrId txn first × EndsUncommitted why
+    (first : List Entry) × (why : Cause) × AddsNoneOrOne txn first × EndsUncommitted why
     × (added ≡ first ++ aborting txn why ∷ [])
 
 -- a write id is asked for by a change of rows, in its table
@@ -232,7 +249,7 @@ pub record IsAborted (txn : ℕ) (why : Cause) (before now : List Entry) : Type 
   pub book : now ≡ before ++ aborting txn of ∷ []
 
 abbrev pub PreparesBy : ℕ → Prepared → List Entry → Type 0
-PreparesBy txn (prepared.Ready ready) added = AddsNoneOrId txn added
+PreparesBy txn (prepared.Ready ready) added = AddsNoneOrOne txn added
 PreparesBy txn (prepared.Ended found) added = AddsAbort txn added
 
 pub record Prepares (txn low high : ℕ) (before now : List Entry) (found : Prepared) : Type 0 where
@@ -292,14 +309,15 @@ EndedNamesLast now (prepared.Ended (done.Gone reply)) = ⊥
 
 -- ---- the run stopped in a statement
 
--- Its entries so far are legal behind the book, and none ends it. The journal reads to the book, or where the store failed, to the
--- book or to the book and one entry more of it, which fits behind the book and is no Opened.
+-- Its entries so far fit behind the book, where the house is told they are legal, and none ends it. The journal reads to the book, or where
+-- the store failed, to the book or to the book and one entry more of it, which fits behind the book and is no Opened.
 pub record HasStopped {D : Type 0} (told : D → Option Store) (txn : ℕ) (why : HouseFault)
     (before now : House D) : Type 0 where
   pub added : List Entry
   pub book : entries_of now ≡ entries_of before ++ added
   pub of_it : AreOf txn added
-  pub legal : IsLegalFrom profile (state_of (entries_of before)) added
+  pub fits : AllFit profile (state_of (entries_of before)) added
+  pub legal : IsToldHouse told before → IsLegalFrom profile (state_of (entries_of before)) added
   pub unended : AllByRecursion (IsNoEnd txn) added
   pub further : List Entry
   pub further_of_it : AreOf txn further

@@ -4,17 +4,19 @@ use Rattle.std.specs.Prelude.{◌≡◌, ◌⊎◌, ℕ, ◌+◌, ◌<◌, ◌�
 use Rattle.std.specs.List.{AllByRecursion}
 use Rattle.hv_base.specs.Refusals as refusals
 use Rattle.hv_base.specs.declared.ids.TxnId.{TxnId}
+use Rattle.hv_base.specs.declared.ids.JobId.{JobId}
 use Rattle.hv_base.specs.declared.ids.TableId.{TableId}
 use Rattle.hv_base.specs.declared.ids.WriteId.{WriteId}
 use Rattle.hv_base.specs.declared.ids.Touch.{Touch}
 use Rattle.hv_shelf.specs.declared.place.Place.{Place}
 use Rattle.hv_shelf.specs.Disk.{Store}
 use Rattle.hv_ast.specs.declared.statement.Stmt.{Stmt}
+use Rattle.hv_ast.specs.declared.table.CompactionKind.{CompactionKind}
 use Rattle.hv_built.specs.Running.{Runs}
 use Rattle.hv_logic.specs.declared.catalog.TableInfo.{TableInfo}
 use Rattle.hv_logic.specs.declared.effect.Effect.{Effect}
 use Rattle.hv_logic.specs.declared.meaning.Meaning.{Meaning}
-use Rattle.hv_logic.specs.declared.meaning.Meaning.TheVariants.{Listing, Change, Make, Unmake, Refused, Twice, RowLimit, PartitionLimit, Plain}
+use Rattle.hv_logic.specs.declared.meaning.Meaning.TheVariants.{Listing, Change, Make, Unmake, Refused, Twice, RowLimit, PartitionLimit, Plain, Ask}
 use Rattle.hv_route.specs.Back.{AreHeld}
 use Rattle.hv_route.specs.Routes.{files_of}
 use Rattle.hv_route.specs.Touching.{touches_of}
@@ -22,6 +24,7 @@ use Rattle.hv_history.specs.declared.entry.Entry.{Entry}
 use Rattle.hv_history.specs.declared.entry.Entry.TheVariants as entry
 use Rattle.hv_history.specs.declared.entry.Cause.{Cause}
 use Rattle.hv_history.specs.declared.entry.Cause.TheVariants as cause
+use Rattle.hv_history.specs.JobsTrue.{kind_of}
 use Rattle.hv_history.specs.State.{state_of}
 use Rattle.hv_history.specs.Legal.{Fits, HasRoom, profile}
 use Rattle.hv_history.specs.Answers.{listing, counts_line, committed_text, ok_line, conflict_text}
@@ -41,7 +44,7 @@ use Rattle.hv_table_reader.specs.hv_acts.specs.Meant.{TouchesNothing, IsChangeDu
 use Rattle.hv_table_reader.specs.hv_acts.specs.Starting.{IsInItsWay}
 use Rattle.hv_table_reader.specs.hv_acts.specs.Committing.{CanBePut}
 use Rattle.hv_table_reader.specs.hv_acts.specs.hv_telling.specs.Telling.{IsToldHouse}
-use Rattle.hv_steps.specs.Ending.{giving, aborting, creating, dropping, committing, idle_end, CanEnd, HasEndedAt, HasReplied}
+use Rattle.hv_steps.specs.Ending.{giving, job_asked, aborting, creating, dropping, committing, idle_end, CanEnd, HasEndedAt, HasReplied}
 use Rattle.hv_steps.specs.declared.ready.Way.{Way}
 use Rattle.hv_steps.specs.declared.ready.Reply.{Reply}
 use Rattle.hv_steps.specs.declared.ready.Ready.{Ready}
@@ -220,10 +223,17 @@ pub record IsChangeReady (info : TableInfo) (effect : Effect) (write : ℕ) (put
 abbrev pub IsReadyAs : Ready → End → List ℕ → Type 0
 IsReadyAs ready last text = (ready.end ≡ last) × (ready.text ≡ text)
 
--- a statement of this meaning is ready so, by these entries: none, or the write id of a change of rows
+-- none was added, or the job that is asked for
+abbrev pub AsksJob : ℕ → TableId → List ℕ → CompactionKind → List Entry → Type 0
+AsksJob txn table partition kind added =
+    (added ≡ []) ⊎ ((job : JobId) × (added ≡ job_asked txn job table partition (kind_of kind) ∷ []))
+
+-- A statement of this meaning is ready so, by these entries: none, or the write id of a change of rows, or the job that it asks for.
 abbrev pub PreparesTo : ℕ → Meaning → Ready → List Entry → Type 0
 PreparesTo txn (Listing names rows) ready added = (added ≡ []) × IsReadyAs ready idle_end (listing names rows)
 PreparesTo txn Plain ready added = (added ≡ []) × IsReadyAs ready idle_end ok_line
+PreparesTo txn (Ask table partition kind) ready added =
+    AsksJob txn table partition kind added × IsReadyAs ready idle_end ok_line
 PreparesTo txn (Make shape) ready added = (added ≡ []) × IsReadyAs ready end.Create ok_line
 PreparesTo txn (Unmake table) ready added = (added ≡ []) × IsReadyAs ready (end.Drop table) ok_line
 PreparesTo txn (Change info effect) ready added =
@@ -239,25 +249,34 @@ EndsEarlyFor (Twice partition row) (cause.Twice other id) = (other ≡ partition
 EndsEarlyFor RowLimit cause.RowLimit = Unit {0}
 EndsEarlyFor PartitionLimit cause.PartitionLimit = Unit {0}
 EndsEarlyFor (Change info effect) cause.Full = 0 < changes_in effect
+EndsEarlyFor (Ask table partition kind) cause.Full = Unit {0}
 EndsEarlyFor meaning why = ⊥
 
 abbrev pub IsWriteFault : Cause → Type 0
 IsWriteFault (cause.WriteFault count) = Unit {0}
 IsWriteFault why = ⊥
 
+abbrev pub NoCause : Cause → Type 0
+NoCause why = ⊥
+
+-- those for which it is behind what it has noted: a call on files failed; what asks for a compaction makes none
+abbrev pub BreaksFor : Meaning → Cause → Type 0
+BreaksFor (Change info effect) = IsWriteFault
+BreaksFor meaning = NoCause
+
+-- its write id, or the job that it asks for
 abbrev pub GivesId : ℕ → Meaning → List Entry → Type 0
 GivesId txn (Change info effect) first = (write : WriteId) × (0 < changes_in effect)
     × (first ≡ giving txn info.table write ∷ [])
+GivesId txn (Ask table partition kind) first =
+    (job : JobId) × (first ≡ job_asked txn job table partition (kind_of kind) ∷ [])
 GivesId txn meaning first = ⊥
 
 abbrev pub Prepares : {D : Type 0} → ℕ → ToldHouse D → Meaning → Prepared → List Entry → Type 0
 Prepares txn now meaning (prepared.Ready ready) added = PreparesTo txn meaning ready added
 Prepares txn now meaning (prepared.Ended found) added =
     AbortsFor txn now [] (EndsEarlyFor meaning) found added
-    ⊎ ((first : List Entry) × GivesId txn meaning first × AbortsFor txn now first IsWriteFault found added)
-
-abbrev pub NoCause : Cause → Type 0
-NoCause why = ⊥
+    ⊎ ((first : List Entry) × GivesId txn meaning first × AbortsFor txn now first (BreaksFor meaning) found added)
 
 -- it has asked for all that it asks for; or it has ended on the way
 abbrev pub Asks : {D : Type 0} → ℕ → ToldHouse D → (Entry → Type 0) → Asked → List Entry → Type 0

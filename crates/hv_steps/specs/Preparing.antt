@@ -1,16 +1,17 @@
 -- What the steps of preparing a statement come to: a write id is taken, files are put, and what becomes of one where an act was refused.
 -- Source: Hive Transactions; the replies are this project's profile.
-use Rattle.std.specs.Prelude.{◌≡◌, ℕ, ◌<◌, ◌≤◌, true, Option, Some, None, IsSomeAnd, List, [], ◌∷◌, take, Result, Ok, Err}
+use Rattle.std.specs.Prelude.{◌≡◌, ℕ, ◌<◌, ◌≤◌, true, Option, Some, None, IsSomeAnd, List, [], ◌∷◌, length, take, Result, Ok, Err}
 use Rattle.std.specs.List.{AllByRecursion}
 use Rattle.hv_base.specs.declared.ids.TableId.{TableId}
 use Rattle.hv_base.specs.declared.ids.TxnId.{TxnId}
 use Rattle.hv_shelf.specs.declared.place.Place.{Place}
 use Rattle.hv_shelf.specs.Disk.{Store}
 use Rattle.hv_ast.specs.declared.statement.Stmt.{Stmt}
+use Rattle.hv_ast.specs.declared.table.CompactionKind.{CompactionKind}
 use Rattle.hv_dirs.specs.Names.{write_end}
 use Rattle.hv_logic.specs.declared.catalog.TableInfo.{TableInfo}
 use Rattle.hv_logic.specs.declared.effect.Effect.{Effect}
-use Rattle.hv_logic.specs.declared.meaning.Meaning.TheVariants.{Change}
+use Rattle.hv_logic.specs.declared.meaning.Meaning.TheVariants.{Change, Ask}
 use Rattle.hv_route.specs.Back.{AreHeld}
 use Rattle.hv_route.specs.Routes.{files_of}
 use Rattle.hv_route.specs.declared.files.OutFile.{OutFile}
@@ -18,6 +19,7 @@ use Rattle.hv_history.specs.declared.entry.Entry.{Entry}
 use Rattle.hv_history.specs.declared.entry.Cause.{Cause}
 use Rattle.hv_history.specs.declared.entry.Cause.TheVariants as cause
 use Rattle.hv_history.specs.declared.state.Table.{Table}
+use Rattle.hv_history.specs.JobsTrue.{ask_of}
 use Rattle.hv_history.specs.State.{numbered}
 use Rattle.hv_stands.specs.Files.{place_of_file}
 use Rattle.hv_stands.specs.Laws.{HasFile}
@@ -32,9 +34,14 @@ use Rattle.hv_table_reader.specs.hv_acts.specs.declared.fault.ActFault.{ActFault
 use Rattle.hv_table_reader.specs.hv_acts.specs.declared.fault.ActFault.TheVariants as act
 use Rattle.hv_table_reader.specs.hv_acts.specs.declared.giving.Given.{Given}
 use Rattle.hv_table_reader.specs.hv_acts.specs.declared.giving.Given.TheVariants as given
+use Rattle.hv_table_reader.specs.hv_acts.specs.declared.compacting.AskFor.{AskFor}
+use Rattle.hv_table_reader.specs.hv_acts.specs.declared.compacting.AskedFor.{AskedFor}
+use Rattle.hv_table_reader.specs.hv_acts.specs.declared.compacting.AskedFor.TheVariants as found
 use Rattle.hv_table_reader.specs.hv_acts.specs.declared.aborted.Aborted.{Aborted}
 use Rattle.hv_table_reader.specs.hv_acts.specs.Told.{trail_in, book_in}
 use Rattle.hv_table_reader.specs.hv_acts.specs.Answers.{HasItsMark}
+use Rattle.hv_table_reader.specs.hv_acts.specs.Compacting.{asked_entry}
+use Rattle.hv_table_reader.specs.hv_acts.specs.Passing.{HasStood}
 use Rattle.hv_table_reader.specs.hv_acts.specs.Meant.{HasMeant, IsFileMeant, places_of_files}
 use Rattle.hv_steps.specs.Ending.{aborting, giving, CanChange, HasEndedAt}
 use Rattle.hv_steps.specs.declared.ready.End.{End}
@@ -153,6 +160,51 @@ IsGivenSo told now txn info effect (given.Id write) = HasItsId told now txn info
 IsGivenSo told now txn info effect (given.Aborted aborted) =
     IsAbortFor txn.0 now (EndsEarlyFor (Change info effect)) (aborting txn.0 aborted.cause) (aborted_reply aborted)
     × HasEndedAt (book_in now) txn.0 (Some aborted.at)
+
+-- ---- its job
+
+-- what it asks for
+abbrev pub asks_as : Way → TableId → List ℕ → CompactionKind → AskFor
+asks_as way table partition kind = record {
+  by = way.txn;
+  place = way.place;
+  table = table;
+  partition = partition;
+  kind = kind;
+}
+
+-- the entry that was noted: the job, or the abort; or none
+abbrev pub job_entries : AskFor → Result AskedFor ActFault → List Entry
+job_entries asked (Ok (found.Job job)) = asked_entry asked job ∷ []
+job_entries asked (Ok found.Busy) = []
+job_entries asked (Ok (found.Aborted aborted)) = aborting asked.by.0 aborted.cause ∷ []
+job_entries asked (Err why) = []
+
+-- it is under way without a write id, and the partition's text is short; in a told house it means that compaction
+pub record ComesToJob {D : Type 0} (told : D → Option Store) (now : ToldHouse D) (way : Way) (table : TableId)
+    (partition : List ℕ) (kind : CompactionKind) : Type 0 where
+  pub asking : Asking
+  pub said : Stmt
+  pub was : WasOnWay (trail_in now) asking way said
+  pub short : length partition ≤ 240
+  pub truly : IsToldHouse told now.house
+      → meant (take way.place (book_in now)) said ≡ Some (Ask table partition kind)
+
+-- a job of the partition was busy behind its Start, its own or another one; and in a told house it means that compaction, as at its Start
+pub record HasJob {D : Type 0} (told : D → Option Store) (now : ToldHouse D) (way : Way) (table : TableId)
+    (partition : List ℕ) (kind : CompactionKind) : Type 0 where
+  pub stood : HasStood (trail_in now) way.place (ask_of table partition kind)
+  pub means : IsToldHouse told now.house
+      → (has : HasMeant (trail_in now) way.txn [] (Ask table partition kind)) × (has.was.place ≡ way.place)
+
+-- it has its job; or it was aborted since there is no room
+abbrev pub IsStoodSo : {D : Type 0} → (D → Option Store) → ToldHouse D → Way → AskFor → AskedFor → Type 0
+IsStoodSo told now way asked (found.Job job) = HasJob told now way asked.table asked.partition asked.kind
+IsStoodSo told now way asked found.Busy = HasJob told now way asked.table asked.partition asked.kind
+IsStoodSo told now way asked (found.Aborted aborted) =
+    IsAbortFor way.txn.0 now (EndsEarlyFor (Ask asked.table asked.partition asked.kind))
+    (aborting way.txn.0 aborted.cause) (aborted_reply aborted)
+    × HasEndedAt (book_in now) way.txn.0 (Some aborted.at)
 
 -- ---- its files
 

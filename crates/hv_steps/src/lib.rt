@@ -2,6 +2,7 @@
 //! prepares that, and is refused or aborted where that is due.
 #![tactic(auto)]
 
+pub use hv_effect;
 pub use hv_table_reader;
 
 mod asking;
@@ -12,6 +13,7 @@ mod refusing;
 mod reply;
 mod seeing;
 mod telling;
+mod wanting;
 
 pub use asking::ask;
 pub use preparing::prepare;

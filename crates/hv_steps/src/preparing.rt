@@ -2,7 +2,7 @@
 ghost use Rattle.std.specs.Prelude.{◌≡◌, ◌≤◌, ◌<◌, ℕ, Some, None, Ok, true, false, take, [], ◌∷◌, IfOk, IfErr};
 ghost use Rattle.std.specs.List.{AllByRecursion};
 ghost use Rattle.hv_ast.specs.declared.statement.Stmt.{Stmt};
-ghost use Rattle.hv_logic.specs.declared.meaning.Meaning.TheVariants.{Change};
+ghost use Rattle.hv_logic.specs.declared.meaning.Meaning.TheVariants.{Change, Ask};
 ghost use Rattle.hv_route.specs.Routes.{files_of};
 ghost use Rattle.hv_route.specs.Touching.{touches_of, touched};
 ghost use Rattle.hv_table_rows.specs.Putting.{CanPut};
@@ -13,7 +13,7 @@ ghost use Rattle.hv_table_reader.specs.hv_acts.specs.hv_telling.specs.hv_house.s
 ghost use Rattle.hv_table_reader.specs.hv_acts.specs.hv_telling.specs.Telling.{IsToldHouse};
 ghost use Rattle.hv_table_reader.specs.hv_acts.specs.Told.{trail_in, book_in};
 ghost use Rattle.hv_table_reader.specs.hv_acts.specs.Answers.{HasItsMark};
-ghost use Rattle.hv_table_reader.specs.hv_acts.specs.Passing.{HasAskedAll};
+ghost use Rattle.hv_table_reader.specs.hv_acts.specs.Passing.{HasPassedAll};
 ghost use Rattle.hv_table_reader.specs.hv_acts.specs.Meant.{IsAbortDue};
 ghost use Rattle.hv_steps.specs.declared.ready.End.TheVariants as last;
 ghost use Rattle.hv_steps.specs.Ending.{aborting, idle_end, CanChange, EndsUncommitted};
@@ -21,7 +21,7 @@ ghost use Rattle.hv_steps.specs.declared.reply.Prepared.TheVariants as found;
 ghost use Rattle.hv_steps.specs.Going.{faults_in, AddsOwn, CauseKeeps, Goes, IsOpenHouse, WasOnWay, WasOpened};
 ghost use Rattle.hv_steps.specs.Leaving.{EndsAct};
 ghost use Rattle.hv_steps.specs.Phases.{ComesTo, Prepares, CanConcludeIn, NoCause};
-ghost use Rattle.hv_steps.specs.Preparing.{ended, ended_by, failed_count, given_entries, EndsFor, MakesReady, ComesToChange, IsGivenSo, IsFaultOf, IsRefusal, HasItsId, Writes};
+ghost use Rattle.hv_steps.specs.Preparing.{ended, ended_by, failed_count, given_entries, asks_as, job_entries, EndsFor, MakesReady, ComesToChange, ComesToJob, IsGivenSo, IsStoodSo, IsFaultOf, IsRefusal, HasItsId, Writes};
 ghost use Rattle.hv_actor.specs.Acting.{among, known};
 
 use crate::putting::put;
@@ -29,14 +29,15 @@ use crate::ready::{End, Ready, Reply, Way};
 use crate::refusing::{end_without, refuse};
 use crate::reply::{Done, Prepared};
 use hv_actor::Actor;
-use hv_base::{List, NoMemory, Text, Touch, TxnId, WriteId};
+use hv_ast::CompactionKind;
+use hv_base::{List, NoMemory, TableId, Text, Touch, TxnId, WriteId};
 use hv_effect::Touching;
 use hv_history::{Cause, counts_line, listing, ok_line};
 use hv_logic::{Effect, Meaning, TableInfo};
 use hv_shelf::{Place, Shelf};
 use hv_table_reader::hv_acts::hv_telling::hv_house::HouseFault;
 use hv_table_reader::hv_acts::{
-    Aborted, ActFault, GiveId, Given, ToldHouse, what_was_meant_is_meant,
+    Aborted, ActFault, AskFor, AskedFor, GiveId, Given, ToldHouse, what_was_meant_is_meant,
 };
 use std::alloc::Global;
 
@@ -342,8 +343,71 @@ fn prepare_change<D: Shelf + Drop, W: Actor<D, ToldHouse<D>>>(
     }
 }
 
+/// Asks for the compaction that a statement comes to, where no job of the partition was busy behind its Start; or aborts it, where there
+/// is no room for that.
+fn ask_job<D: Shelf + Drop, W: Actor<D, ToldHouse<D>>>(
+    alloc: Global,
+    actor: &mut W,
+    way: Way,
+    table: TableId,
+    partition: Text,
+    kind: CompactionKind,
+) -> Result<AskedFor, ActFault>
+    requires keeps { W.keeps actor.old }
+    requires running { IsOpenHouse (W.house actor.old) }
+    requires comes { ComesToJob D.told (W.house actor.old) way table partition kind }
+    ensures keeps { W.keeps actor.new }
+    ensures adds { AddsOwn D.faults W.between way.txn.0 (known (W.own actor.old) (W.house actor.old))
+        (known (W.own actor.new) (W.house actor.new))
+        (job_entries (asks_as way table partition kind) result) }
+    ensures running { IfOk result (λ _. IsOpenHouse (W.house actor.new)) }
+    ensures stood { IfOk result (IsStoodSo D.told (W.house actor.new) way (asks_as way table partition kind)) }
+    ensures refusal { (low : ℕ) → IfErr result (IsRefusal D.told D.faults W.meanwhile low way.txn (W.house actor.new)) }
+    ensures why { IfErr result EndsAct }
+{
+    what_was_meant_is_meant();
+    actor.hold(
+        alloc,
+        AskFor {
+            by: way.txn,
+            place: way.place,
+            table,
+            partition,
+            kind,
+        },
+    )
+}
+
+/// Prepares a statement that asks for a compaction.
+fn prepare_job<D: Shelf + Drop, W: Actor<D, ToldHouse<D>>>(
+    alloc: Global,
+    actor: &mut W,
+    way: Way,
+    table: TableId,
+    partition: Text,
+    kind: CompactionKind,
+) -> Result<Prepared, HouseFault>
+    requires keeps { W.keeps actor.old }
+    requires running { IsOpenHouse (W.house actor.old) }
+    requires comes { ComesToJob D.told (W.house actor.old) way table partition kind }
+    ensures keeps { W.keeps actor.new }
+    ensures goes { Goes (among D.told D.faults W.between W.meanwhile) (faults_in D.faults (W.house actor.old)) way.txn.0
+        (known (W.own actor.old) (W.house actor.old)) (known (W.own actor.new) (W.house actor.new))
+        (Prepares way.txn.0 (W.house actor.new) (Ask table partition kind)) result }
+    ensures can { IfOk result (CanConcludeIn D.told (W.house actor.new) way) }
+{
+    match ask_job(alloc, actor, way, table, partition, kind) {
+        Ok(AskedFor::Job(_job)) => {
+            made_ready(alloc, actor, way.txn, nothing(alloc), ok_line(alloc))
+        }
+        Ok(AskedFor::Busy) => made_ready(alloc, actor, way.txn, nothing(alloc), ok_line(alloc)),
+        Ok(AskedFor::Aborted(aborted)) => Ok(ended_by(aborted)),
+        Err(why) => break_off(alloc, actor, way.txn, why),
+    }
+}
+
 /// Does all of a started statement of this meaning but its end, once it has asked for the aborts that it lists: takes a write id and puts its
-/// files where it changes rows. Or ends it: for what it means, for a fault of its files, or for want of room or memory.
+/// files where it changes rows, or asks for a compaction. Or ends it: for what it means, for a fault of its files, or for want of room or memory.
 ///
 /// # Errors
 /// `Store` where the journal failed or others closed the house, and `NoMemory` where memory lacked even for an abort.
@@ -357,7 +421,7 @@ pub fn prepare<D: Shelf + Drop, W: Actor<D, ToldHouse<D>>>(
     requires running { IsOpenHouse (W.house actor.old) }
     requires was { (asking : Asking) × (said : Stmt) × WasOnWay (trail_in (W.house actor.old)) asking way said
         × ComesTo D.told (W.house actor.old) way said meaning
-        × HasAskedAll (trail_in (W.house actor.old)) way.txn way.place said meaning }
+        × HasPassedAll (trail_in (W.house actor.old)) way.txn way.place said meaning }
     ensures keeps { W.keeps actor.new }
     ensures goes { Goes (among D.told D.faults W.between W.meanwhile) (faults_in D.faults (W.house actor.old)) way.txn.0
         (known (W.own actor.old) (W.house actor.old)) (known (W.own actor.new) (W.house actor.new))
@@ -379,6 +443,9 @@ pub fn prepare<D: Shelf + Drop, W: Actor<D, ToldHouse<D>>>(
         }
         Meaning::Make(_) => made_ready(alloc, actor, txn, End::Create, ok_line(alloc)),
         Meaning::Unmake(table) => made_ready(alloc, actor, txn, End::Drop(table), ok_line(alloc)),
+        Meaning::Ask(table, partition, kind) => {
+            prepare_job(alloc, actor, way, table, partition, kind)
+        }
         Meaning::Refused(refusal) => {
             let number = refusal.number();
             withdraw(alloc, actor, txn, Cause::Refused { number })

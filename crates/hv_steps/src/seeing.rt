@@ -1,18 +1,21 @@
 //! What a started statement sees, and what it comes to.
 
-ghost use Rattle.std.specs.Prelude.{◌≡◌, ◌≤◌, ◌<◌, ℕ, ◌++◌, ◌∷◌, [], Some, IfOk, OnOk, IsSome, length, take, true};
+ghost use Rattle.std.specs.Prelude.{◌≡◌, ◌≤◌, ◌<◌, ℕ, ◌++◌, ◌∷◌, [], Some, IfOk, OnOk, length, take, slice_get, true};
 ghost use Rattle.hv_base.specs.declared.ids.TxnId.{TxnId};
 ghost use Rattle.hv_ast.specs.declared.statement.Stmt.{Stmt};
 ghost use Rattle.hv_built.specs.Built.{IsBuilt};
-ghost use Rattle.hv_meaning.specs.Meaning.{meaning_in};
-ghost use Rattle.hv_meaning.specs.Laws.{MeansSomething, are_values, reads_rows};
+ghost use Rattle.hv_typing.specs.Analysis.{analysed};
+ghost use Rattle.hv_meaning.specs.Meaning.{meant};
+ghost use Rattle.hv_meaning.specs.Needs.{KeepMeaning};
+ghost use Rattle.hv_meaning.specs.Laws.{MeansSomething};
+ghost use Rattle.hv_effect.specs.Tables.{found_of};
+ghost use Rattle.hv_effect.specs.Studied.{typed_in};
 ghost use Rattle.std.specs.Option.{option_copied};
-ghost use Rattle.hv_logic.specs.Tables.{named};
+ghost use Rattle.hv_logic.specs.Names.{names_in};
 ghost use Rattle.hv_logic.specs.declared.meaning.Meaning.TheVariants.{Listing};
 ghost use Rattle.hv_history.specs.Shown.{filled, is_plain, listed_for, show_of};
 ghost use Rattle.hv_history.specs.declared.entry.Cause.TheVariants.{ReadFault};
 ghost use Rattle.hv_stands.specs.Running.{Asking};
-ghost use Rattle.hv_stands.specs.Reading.{table_of_name};
 ghost use Rattle.hv_table_reader.specs.hv_acts.specs.hv_telling.specs.hv_house.specs.House.{IsSmall};
 ghost use Rattle.hv_table_reader.specs.hv_acts.specs.hv_telling.specs.hv_house.specs.declared.fault.HouseFault.TheVariants as fault;
 ghost use Rattle.hv_table_reader.specs.declared.fault.RowFault.TheVariants as row_fault;
@@ -23,177 +26,253 @@ ghost use Rattle.hv_table_reader.specs.hv_acts.specs.Meant.{IsAbortDue};
 ghost use Rattle.hv_table_reader.specs.hv_acts.specs.Reading.{HasPlace, HasReader, state_then};
 ghost use Rattle.hv_steps.specs.Ending.{aborting, EndsUncommitted};
 ghost use Rattle.hv_table_reader.specs.Tables.{RisesTo};
+ghost use Rattle.hv_table_reader.specs.Steady.{HasRowsIn};
+ghost use Rattle.hv_steps.specs.Wanting.{picked, needs_in};
 ghost use Rattle.hv_steps.specs.Going.{IsOpenHouse, faults_in, Goes, WasOnWay, WasOpened, CauseKeeps};
 ghost use Rattle.hv_steps.specs.Phases.{ComesTo, Sees};
-ghost use Rattle.hv_steps.specs.Seeing.{tables_then, IsSeenAs, AreSeenOfSome, AddsSeen, IsSeen, Looks, IsUnseen, IsNarrow, EndsFor, EndsUnseen};
+ghost use Rattle.hv_steps.specs.Seeing.{tables_then, infos_then, IsFound, AreFound, IsFoundAs, AddsFound, HasNeeded, AddsRows, AreRead, Looks, IsUnseen, IsNarrow, EndsFor, EndsUnseen};
 ghost use Rattle.hv_actor.specs.Acting.{among, known};
 
 use crate::ready::Way;
 use crate::refusing::refuse;
 use crate::reply::Outcome;
+use crate::wanting::{Wanting, is_none, wanting_of};
 use hv_actor::Actor;
-use hv_ast::{Rows, Show, Stmt};
-use hv_base::{Duplicate, NoMemory, Text, TxnId};
-use hv_effect::{Touching, meaning_in, untouched};
+use hv_ast::{Show, Stmt};
+use hv_base::{List, NoMemory, Text, TxnId};
+use hv_effect::{Studied, Touching, mean, study, untouched};
 use hv_history::{Cause, Shown};
-use hv_logic::{Meaning, Seen, named};
+use hv_logic::{Found, Meaning, TableInfo, TableRows};
 use hv_names::names_in;
 use hv_shelf::Shelf;
 use hv_table_reader::hv_acts::ToldHouse;
 use hv_table_reader::hv_acts::hv_telling::hv_house::HouseFault;
-use hv_table_reader::{RowFault, see_table, show_book};
+use hv_table_reader::{RowFault, find_table, read_rows, show_book};
 use std::alloc::Global;
 
-fn are_values(rows: &Rows) -> bool
-    ensures { result ≡ are_values rows.now }
+fn put(info: TableInfo, infos: &mut Vec<TableInfo>) -> Result<(), NoMemory>
+    ensures { OnOk result (infos.new.items ≡ infos.old.items ++ info ∷ []) }
 {
-    match rows {
-        Rows::Values(_) => true,
-        Rows::Query(_) => false,
-    }
-}
-
-/// Whether the rows of the tables that a statement names matter to it.
-fn reads_rows(tree: &Stmt) -> bool
-    ensures { result ≡ reads_rows tree.now }
-{
-    match tree {
-        Stmt::Insert(insert) => insert.overwrite || !are_values(&insert.rows),
-        Stmt::CreateTable(_) | Stmt::DropTable(_) => false,
-        Stmt::Show(_) | Stmt::Describe(_) | Stmt::Set(_) | Stmt::AbortTransactions(_) => false,
-        _ => true,
-    }
-}
-
-fn put(table: Seen, seen: &mut Vec<Seen>) -> Result<(), NoMemory>
-    ensures { OnOk result (seen.new.items ≡ seen.old.items ++ table ∷ []) }
-{
-    seen.push(table)?;
+    infos.push(info)?;
     Ok(())
 }
 
-/// A copy of the table of that name, where it was seen.
-fn seen_before(alloc: Global, name: &Text, seen: &[Seen]) -> Result<Option<Seen>, NoMemory>
-    ensures { IfOk result (λ copy. copy ≡ named name.now seen.now) }
-{
-    match named(name, seen) {
-        Some(table) => Ok(Some(Seen {
-            info: table.info.duplicate(alloc)?,
-            rows: table.rows.duplicate(alloc)?,
-        })),
-        None => Ok(None),
-    }
-}
-
-/// The table of a name that a transaction locks, as it stood at the place of its snapshot.
-fn look_now<D: Shelf + Drop, W: Actor<D, ToldHouse<D>>>(
-    alloc: Global,
-    actor: &mut W,
-    by: TxnId,
-    place: u64,
-    name: &Text,
-    reads: bool,
-) -> Result<Option<Seen>, RowFault>
-    requires keeps { W.keeps actor.old }
-    requires running { IsOpenHouse (W.house actor.old) }
-    requires reader { HasReader (trail_in (W.house actor.old)) by place name.now }
-    ensures keeps { W.keeps actor.new }
-    ensures looks { Looks (among D.told D.faults W.between W.meanwhile) by
-        (known (W.own actor.old) (W.house actor.old)) (known (W.own actor.new) (W.house actor.new)) result }
-    ensures seen { IfOk result (IsSeenAs (IsToldHouse D.told (W.house actor.old).house) reads
-        (table_of_name name.now (tables_then (W.house actor.old) place))) }
-{
-    see_table(alloc, actor, by, place, name, reads)
-}
-
-/// The table of a name that a transaction locks, as it stood at the place of its snapshot. Where it was seen for an earlier name its rows are
-/// copied, and no file is read again.
+/// The description of the table of a name that a transaction locks, as it stood at the place of its snapshot.
 fn look<D: Shelf + Drop, W: Actor<D, ToldHouse<D>>>(
     alloc: Global,
     actor: &mut W,
     by: TxnId,
     place: u64,
     name: &Text,
-    reads: bool,
-    seen: &[Seen],
-) -> Result<Option<Seen>, RowFault>
+) -> Result<Option<TableInfo>, RowFault>
     requires keeps { W.keeps actor.old }
     requires running { IsOpenHouse (W.house actor.old) }
     requires reader { HasReader (trail_in (W.house actor.old)) by place name.now }
-    requires seen { AreSeenOfSome (IsToldHouse D.told (W.house actor.old).house) reads
-        (tables_then (W.house actor.old) place) seen.now }
     ensures keeps { W.keeps actor.new }
     ensures looks { Looks (among D.told D.faults W.between W.meanwhile) by
         (known (W.own actor.old) (W.house actor.old)) (known (W.own actor.new) (W.house actor.new)) result }
-    ensures seen { IfOk result (IsSeenAs (IsToldHouse D.told (W.house actor.old).house) reads
-        (table_of_name name.now (tables_then (W.house actor.old) place))) }
-    ensures once { IsSome (named name.now seen.now) → actor.new ≡ actor.old }
+    ensures found { IfOk result (IsFoundAs (trail_in (W.house actor.new)) by place name.now) }
 {
-    match seen_before(alloc, name, seen)? {
-        Some(table) => Ok(Some(table)),
-        None => look_now(alloc, actor, by, place, name, reads),
-    }
+    find_table(alloc, actor, place, name)
 }
 
-/// Looks at the table of one more name that a transaction locks, as it stood at the place of its snapshot.
-fn see_next<D: Shelf + Drop, W: Actor<D, ToldHouse<D>>>(
+/// Looks for the table of one more name that a transaction locks, as it stood at the place of its snapshot.
+fn find_next<D: Shelf + Drop, W: Actor<D, ToldHouse<D>>>(
     alloc: Global,
     actor: &mut W,
     by: TxnId,
     place: u64,
     name: &Text,
-    reads: bool,
-    seen: &mut Vec<Seen>,
+    infos: &mut Vec<TableInfo>,
 ) -> Result<(), RowFault>
     requires keeps { W.keeps actor.old }
     requires running { IsOpenHouse (W.house actor.old) }
     requires reader { HasReader (trail_in (W.house actor.old)) by place name.now }
-    requires seen { AreSeenOfSome (IsToldHouse D.told (W.house actor.old).house) reads
-        (tables_then (W.house actor.old) place) seen.old.items }
     ensures keeps { W.keeps actor.new }
     ensures looks { Looks (among D.told D.faults W.between W.meanwhile) by
         (known (W.own actor.old) (W.house actor.old)) (known (W.own actor.new) (W.house actor.new)) result }
-    ensures seen { OnOk result (AddsSeen (IsToldHouse D.told (W.house actor.old).house) reads
-        (tables_then (W.house actor.old) place)
-        name.now seen.old.items seen.new.items) }
+    ensures infos { OnOk result (AddsFound (trail_in (W.house actor.new)) by place name.now infos.old.items
+        infos.new.items) }
 {
-    if let Some(table) = look(alloc, actor, by, place, name, reads, seen)? {
-        put(table, seen)?;
+    if let Some(info) = look(alloc, actor, by, place, name)? {
+        put(info, infos)?;
     }
     Ok(())
 }
 
-/// The tables that a statement names, as they stood at its Start, each with its rows where the statement reads rows.
-/// A table's files are read once, however often it is named.
-fn seen<D: Shelf + Drop, W: Actor<D, ToldHouse<D>>>(
+/// The descriptions of the tables that a statement names, as they stood at its Start.
+fn find_all<D: Shelf + Drop, W: Actor<D, ToldHouse<D>>>(
     alloc: Global,
     actor: &mut W,
     way: Way,
     tree: &Stmt,
-) -> Result<Vec<Seen>, RowFault>
+) -> Result<Vec<TableInfo>, RowFault>
     requires keeps { W.keeps actor.old }
     requires running { IsOpenHouse (W.house actor.old) }
     requires was { (asking : Asking) × WasOnWay (trail_in (W.house actor.old)) asking way tree.now }
     ensures keeps { W.keeps actor.new }
     ensures looks { Looks (among D.told D.faults W.between W.meanwhile) way.txn
         (known (W.own actor.old) (W.house actor.old)) (known (W.own actor.new) (W.house actor.new)) result }
-    ensures seen { IfOk result (λ seen. IsSeen D.told (W.house actor.new) way.place tree.now seen.items) }
+    ensures infos { IfOk result (λ infos. infos.items ≡ infos_then (W.house actor.new) way.place (names_in tree.now)) }
+    ensures found { IfOk result (λ infos. AreFound (trail_in (W.house actor.new)) way.txn way.place infos.items) }
 {
     let names = names_in(alloc, tree)?;
-    let reads = reads_rows(tree);
-    let mut seen = Vec::new(alloc);
+    let mut infos = Vec::new(alloc);
     for i in 0..names.len() {
-        see_next(
-            alloc,
-            actor,
-            way.txn,
-            way.place,
-            &names[i].name,
-            reads,
-            &mut seen,
-        )?;
+        find_next(alloc, actor, way.txn, way.place, &names[i].name, &mut infos)?;
     }
-    Ok(seen)
+    Ok(infos)
+}
+
+/// A statement typed over the tables that it names, as they stood at its Start, before any of their rows is read.
+fn studied<D: Shelf + Drop, W: Actor<D, ToldHouse<D>>>(
+    alloc: Global,
+    actor: &mut W,
+    way: Way,
+    tree: &Stmt,
+) -> Result<Studied, RowFault>
+    requires keeps { W.keeps actor.old }
+    requires running { IsOpenHouse (W.house actor.old) }
+    requires was { (asking : Asking) × WasOnWay (trail_in (W.house actor.old)) asking way tree.now }
+    ensures keeps { W.keeps actor.new }
+    ensures looks { Looks (among D.told D.faults W.between W.meanwhile) way.txn
+        (known (W.own actor.old) (W.house actor.old)) (known (W.own actor.new) (W.house actor.new)) result }
+    ensures infos { IfOk result (λ studied. studied.infos.items
+        ≡ infos_then (W.house actor.new) way.place (names_in tree.now)) }
+    ensures found { IfOk result (λ studied.
+        AreFound (trail_in (W.house actor.new)) way.txn way.place studied.infos.items) }
+    ensures typed { IfOk result (λ studied. typed_in studied.typed ≡ analysed studied.infos.items tree.now) }
+    ensures keeping { IfOk result (λ studied. KeepMeaning tree.now studied.infos.items (needs_in studied)) }
+{
+    let infos = find_all(alloc, actor, way, tree)?;
+    Ok(study(alloc, infos, tree)?)
+}
+
+/// The rows of a table's partitions that are wanted, as they stood at the place of a transaction's snapshot.
+fn read_now<'a, D: Shelf + Drop, W: Actor<D, ToldHouse<D>>>(
+    alloc: Global,
+    actor: &mut W,
+    by: TxnId,
+    place: u64,
+    info: &TableInfo,
+    wanting: &Wanting<'a>,
+) -> Result<Vec<Found>, RowFault>
+    requires keeps { W.keeps actor.old }
+    requires running { IsOpenHouse (W.house actor.old) }
+    requires found { IsFound (trail_in (W.house actor.old)) by place info.now }
+    ensures keeps { W.keeps actor.new }
+    ensures looks { Looks (among D.told D.faults W.between W.meanwhile) by
+        (known (W.own actor.old) (W.house actor.old)) (known (W.own actor.new) (W.house actor.new)) result }
+    ensures rows { IfOk result (λ rows. IsToldHouse D.told (W.house actor.old).house
+        → HasRowsIn (tables_then (W.house actor.old) place) (picked wanting.now) info.now rows.items) }
+{
+    read_rows(alloc, actor, by, place, info, wanting)
+}
+
+/// The rows of a table's partitions that are wanted; where none is, no file is listed.
+fn read_wanted<'a, D: Shelf + Drop, W: Actor<D, ToldHouse<D>>>(
+    alloc: Global,
+    actor: &mut W,
+    by: TxnId,
+    place: u64,
+    info: &TableInfo,
+    wanting: &Wanting<'a>,
+) -> Result<List<Found>, RowFault>
+    requires keeps { W.keeps actor.old }
+    requires running { IsOpenHouse (W.house actor.old) }
+    requires found { IsFound (trail_in (W.house actor.old)) by place info.now }
+    ensures keeps { W.keeps actor.new }
+    ensures looks { Looks (among D.told D.faults W.between W.meanwhile) by
+        (known (W.own actor.old) (W.house actor.old)) (known (W.own actor.new) (W.house actor.new)) result }
+    ensures rows { IfOk result (λ rows. IsToldHouse D.told (W.house actor.old).house
+        → HasNeeded (tables_then (W.house actor.old) place) (picked wanting.now) info.now rows) }
+{
+    if is_none(&wanting.need) {
+        return Ok(List::empty(alloc));
+    }
+    let rows = read_now(alloc, actor, by, place, info, wanting)?;
+    Ok(List::from_vec(rows))
+}
+
+/// The rows that a statement needs of the table at this place, which has this description.
+fn read_at<'a, D: Shelf + Drop, W: Actor<D, ToldHouse<D>>>(
+    alloc: Global,
+    actor: &mut W,
+    way: Way,
+    studied: &'a Studied,
+    place: usize,
+    info: &'a TableInfo,
+) -> Result<List<Found>, RowFault>
+    requires keeps { W.keeps actor.old }
+    requires running { IsOpenHouse (W.house actor.old) }
+    requires at { slice_get studied.now.infos.items place ≡ Some info.now }
+    requires found { IsFound (trail_in (W.house actor.old)) way.txn way.place info.now }
+    ensures keeps { W.keeps actor.new }
+    ensures looks { Looks (among D.told D.faults W.between W.meanwhile) way.txn
+        (known (W.own actor.old) (W.house actor.old)) (known (W.own actor.new) (W.house actor.new)) result }
+    ensures rows { IfOk result (λ rows. IsToldHouse D.told (W.house actor.old).house
+        → HasNeeded (tables_then (W.house actor.old) way.place) (needs_in studied.now place) info.now rows) }
+{
+    let wanting = wanting_of(alloc, studied, place, info)?;
+    read_wanted(alloc, actor, way.txn, way.place, info, &wanting)
+}
+
+fn put_rows(table: TableRows, rows: &mut Vec<TableRows>) -> Result<(), NoMemory>
+    ensures { OnOk result (rows.new.items ≡ rows.old.items ++ table ∷ []) }
+{
+    rows.push(table)?;
+    Ok(())
+}
+
+/// Reads what a statement needs of one table more.
+fn read_next<'a, D: Shelf + Drop, W: Actor<D, ToldHouse<D>>>(
+    alloc: Global,
+    actor: &mut W,
+    way: Way,
+    studied: &'a Studied,
+    place: usize,
+    info: &'a TableInfo,
+    rows: &mut Vec<TableRows>,
+) -> Result<(), RowFault>
+    requires keeps { W.keeps actor.old }
+    requires running { IsOpenHouse (W.house actor.old) }
+    requires at { slice_get studied.now.infos.items place ≡ Some info.now }
+    requires found { IsFound (trail_in (W.house actor.old)) way.txn way.place info.now }
+    ensures keeps { W.keeps actor.new }
+    ensures looks { Looks (among D.told D.faults W.between W.meanwhile) way.txn
+        (known (W.own actor.old) (W.house actor.old)) (known (W.own actor.new) (W.house actor.new)) result }
+    ensures rows { OnOk result (AddsRows (IsToldHouse D.told (W.house actor.old).house)
+        (tables_then (W.house actor.old) way.place) (needs_in studied.now place) info.now rows.old.items
+        rows.new.items) }
+{
+    let table = info.table;
+    let found = read_at(alloc, actor, way, studied, place, info)?;
+    put_rows(TableRows { table, rows: found }, rows)?;
+    Ok(())
+}
+
+/// The rows that a statement needs of the tables that it names, as they stood at its Start.
+fn read_all<D: Shelf + Drop, W: Actor<D, ToldHouse<D>>>(
+    alloc: Global,
+    actor: &mut W,
+    way: Way,
+    studied: &Studied,
+) -> Result<Vec<TableRows>, RowFault>
+    requires keeps { W.keeps actor.old }
+    requires running { IsOpenHouse (W.house actor.old) }
+    requires place { HasPlace (trail_in (W.house actor.old)) way.place }
+    requires found { AreFound (trail_in (W.house actor.old)) way.txn way.place studied.now.infos.items }
+    ensures keeps { W.keeps actor.new }
+    ensures looks { Looks (among D.told D.faults W.between W.meanwhile) way.txn
+        (known (W.own actor.old) (W.house actor.old)) (known (W.own actor.new) (W.house actor.new)) result }
+    ensures rows { IfOk result (λ rows. AreRead (IsToldHouse D.told (W.house actor.new).house)
+        (tables_then (W.house actor.new) way.place) (needs_in studied.now) studied.now.infos.items rows.items) }
+{
+    let mut rows = Vec::new(alloc);
+    for i in 0..studied.infos.len() {
+        read_next(alloc, actor, way, studied, i, &studied.infos[i], &mut rows)?;
+    }
+    Ok(rows)
 }
 
 /// The most columns of a table that a row file counts.
@@ -214,6 +293,7 @@ fn is_narrow(touching: &Touching) -> bool
             columns <= MOST_COLUMNS && parts <= MOST_COLUMNS - columns
         }
         Meaning::Twice(partition, _) => partition.len() <= LONGEST_PARTITION,
+        Meaning::Ask(_, partition, _) => partition.len() <= LONGEST_PARTITION,
         _ => true,
     }
 }
@@ -229,13 +309,14 @@ fn narrow(meaning: Touching) -> Result<Touching, NoMemory>
     }
 }
 
-/// What a statement of a form that is built comes to over what was seen.
-fn meaning(alloc: Global, tree: &Stmt, seen: Vec<Seen>) -> Result<Touching, NoMemory>
-    requires means { MeansSomething (meaning_in tree.now seen.items) }
-    ensures means { IfOk result (λ meaning. meaning_in tree.now seen.items ≡ Some meaning) }
+/// What a statement of a form that is built comes to over what was read for it.
+fn meaning(alloc: Global, studied: Studied, rows: &[TableRows]) -> Result<Touching, NoMemory>
+    requires means { MeansSomething (meant studied.infos.items (found_of rows.now) (typed_in studied.typed)) }
+    ensures means { IfOk result (λ meaning. meant studied.infos.items (found_of rows.now) (typed_in studied.typed)
+        ≡ Some meaning) }
     ensures narrow { IfOk result IsNarrow }
 {
-    match meaning_in(alloc, tree, seen)? {
+    match mean(alloc, studied, rows)? {
         Some(meaning) => narrow(meaning),
         None => unreachable!(),
     }
@@ -326,8 +407,9 @@ fn see_meaning<D: Shelf + Drop, W: Actor<D, ToldHouse<D>>>(
     ensures comes { IfOk result (ComesTo D.told (W.house actor.new) way tree.now) }
 {
     let shown = shown(alloc, actor, way, tree)?;
-    let tables = seen(alloc, actor, way, tree)?;
-    let meaning = meaning(alloc, tree, tables)?;
+    let studied = studied(alloc, actor, way, tree)?;
+    let rows = read_all(alloc, actor, way, &studied)?;
+    let meaning = meaning(alloc, studied, rows.as_slice())?;
     Ok(filled(alloc, shown, meaning))
 }
 

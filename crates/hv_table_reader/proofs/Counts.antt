@@ -1,7 +1,7 @@
 -- Whether the files that were read have as many records as commits say: from one file to all of a table.
-use Rattle.std.proofs.Common.{◌≡◌, ℕ, ◌+◌, ◌<◌, inl, inr, Bool, true, false, Option, Some, None, Result, Ok, Err, List, [], ◌∷◌, ◌++◌, length, map, take, get_or, refl, sym, ap, ◌∙◌, subst, arith, length-append, length-take}
+use Rattle.std.proofs.Common.{◌≡◌, ℕ, zero, suc, ◌+◌, ◌<◌, inl, inr, Bool, true, false, cond, filter, Option, Some, None, Result, Ok, Err, List, [], ◌∷◌, ◌++◌, length, map, take, get_or, refl, sym, ap, ◌∙◌, subst, arith, length-append, length-take}
 use Rattle.std.specs.Prelude.{IfErr, IsErrAnd}
-use Rattle.std.specs.List.{flat_map}
+use Rattle.std.specs.List.{flat_map, Contains}
 use Rattle.std.proofs.lemmas.List.Concat.{flat_map-cons}
 use Rattle.hv_base.specs.Told.{Tells}
 use Rattle.hv_shelf.specs.declared.place.Place.{Place}
@@ -13,18 +13,20 @@ use Rattle.hv_choosing.specs.Dirs.{span_of}
 use Rattle.hv_choosing.specs.Taken.{files_taken}
 use Rattle.hv_rowfile.specs.declared.record.Rec.{Rec}
 use Rattle.hv_history.specs.declared.entry.FilePlace.{FilePlace}
-use Rattle.hv_table_rows.specs.Reading.{HoldsAt, Sheet, sheet_file, Reads}
+use Rattle.hv_table_rows.specs.Reading.{HoldsAt, Sheet, is_file_wanted, files_wanted, Reads}
+use Rattle.hv_table_rows.specs.Damage.{IsOneDamaged}
 use Rattle.hv_law_dues.specs.hv_counts.specs.declared.counted.Counted.{Counted}
 use Rattle.hv_law_dues.specs.hv_counts.specs.declared.due.Due.{Due}
-use Rattle.hv_law_dues.specs.hv_counts.specs.Counts.{AreOwn, IsCounted, due_at}
+use Rattle.hv_law_dues.specs.hv_counts.specs.Counts.{AreOwn, IsCounted, due_at, dues_wanted}
 use Rattle.hv_law_dues.specs.hv_counts.specs.Miscounts.{counted_of, AreCounted, IsMiscounted}
-use Rattle.hv_law_dues.specs.hv_counts.specs.Files.{AreSheets, IsUncounted, IsToldUncounted}
+use Rattle.hv_law_dues.specs.hv_counts.specs.Files.{IsUncounted, IsToldUncounted}
 use Rattle.hv_table_reader.specs.declared.fault.RowFault.{RowFault}
 use Rattle.hv_table_reader.specs.declared.fault.RowFault.TheVariants as fault
 use Rattle.hv_table_reader.specs.Damage.{IsDamage}
-use Rattle.hv_acts.specs.hv_telling.specs.hv_house.specs.Listing.{AreTaken}
 use Rattle.hv_acts.specs.Counting.{AreAsMany}
-use Rattle.hv_table_reader.specs.Counting.{counted_at, counted_in, CountsUpTo, TellsUncounted, HasKindCounts, IsKindUncounted, AreOwnBeside, TellsKind, IsAmissOf}
+use Rattle.hv_table_reader.specs.Counting.{counted_at, counted_in, CountsUpTo, TellsUncounted, HasKindCounts, IsKindUncounted, IsOfAsked, TellsKind, IsAmissOf}
+use Rattle.hv_table_reader.specs.declared.wanting.Wanted.{Wanted}
+use Rattle.hv_table_reader.specs.Steady.{is_asked, AreWanted}
 use Rattle.hv_table_reader.proofs.Sheets.{reads-none, reads-next, spoiled-told}
 
 -- ---- what was counted
@@ -62,11 +64,11 @@ are-counted deletes files taken counts reads = record {
 
 -- ---- the files of a kind
 
-pub kind-counted : (o : Option Store) (deletes : Bool) (taken beside : List DirFile) (counts : List Counted) (dues : List Due) → CountsUpTo o deletes taken counts
-    → ((sheets : List Sheet) → AreCounted deletes taken counts sheets → AreOwn taken → AreOwn beside → IsCounted deletes dues sheets)
-    → Tells o (λ s. HasKindCounts deletes s.tree taken beside dues)
-kind-counted None deletes taken beside counts dues done all = tt
-kind-counted (Some s) deletes taken beside counts dues done all =
+pub kind-counted : (o : Option Store) (deletes : Bool) (taken : List DirFile) (asked : Bool) (counts : List Counted) (dues : List Due) → CountsUpTo o deletes taken counts
+    → ((sheets : List Sheet) → AreCounted deletes taken counts sheets → AreOwn taken → asked ≡ true → IsCounted deletes dues sheets)
+    → Tells o (λ s. HasKindCounts deletes s.tree taken asked dues)
+kind-counted None deletes taken asked counts dues done all = tt
+kind-counted (Some s) deletes taken asked counts dues done all =
     let reads = done.reads in
     record {
       sheets = reads.sheets;
@@ -75,20 +77,20 @@ kind-counted (Some s) deletes taken beside counts dues done all =
       counted = all reads.sheets (are-counted deletes s.tree taken counts reads);
     }
 
-pub kind-told : (o : Option Store) (deletes : Bool) (table : ℕ) (taken beside : List DirFile) (counts : List Counted) (dues : List Due) (why : RowFault)
+pub kind-told : (o : Option Store) (deletes : Bool) (table : ℕ) (taken : List DirFile) (asked : Bool) (counts : List Counted) (dues : List Due) (why : RowFault)
     → CountsUpTo o deletes taken counts
-    → ((sheets : List Sheet) → AreCounted deletes taken counts sheets → TellsUncounted deletes table dues sheets why) → AreOwnBeside beside why
-    → Tells o (λ s. TellsKind deletes table s.tree taken beside dues why)
-kind-told None deletes table taken beside counts dues why done all own = tt
-kind-told (Some s) deletes table taken beside counts dues (fault.Damaged told) done all own =
+    → ((sheets : List Sheet) → AreCounted deletes taken counts sheets → TellsUncounted deletes table dues sheets why) → IsOfAsked asked why
+    → Tells o (λ s. TellsKind deletes table s.tree taken asked dues why)
+kind-told None deletes table taken asked counts dues why done all own = tt
+kind-told (Some s) deletes table taken asked counts dues (fault.Damaged told) done all own =
     let reads = done.reads in
     let is = all reads.sheets (are-counted deletes s.tree taken counts reads) in
-    inr (record { sheets = reads.sheets; files_are = reads.files_are; each = reads.each; own = own; place = is.0; place_is = is.1; miscounted = is.2 })
-kind-told (Some s) deletes table taken beside counts dues (fault.House why) done all own = tt
+    inr (record { sheets = reads.sheets; files_are = reads.files_are; each = reads.each; asks = own; place = is.0; place_is = is.1; miscounted = is.2 })
+kind-told (Some s) deletes table taken asked counts dues (fault.House why) done all own = tt
 
-pub own-beside : (beside : List DirFile) (why : RowFault) → AreOwn beside → AreOwnBeside beside why
-own-beside beside (fault.Damaged told) own = own
-own-beside beside (fault.House why) own = tt
+pub of-asked : (asked : Bool) (why : RowFault) → asked ≡ true → IsOfAsked asked why
+of-asked asked (fault.Damaged told) is = is
+of-asked asked (fault.House why) is = tt
 
 -- what is passed up
 pub err-up : {T : Type 0} (P : RowFault → Type 0) (result : Result T RowFault) (why : RowFault) → IsErrAnd result (λ w. w ≡ why) → P why → IfErr result P
@@ -106,63 +108,76 @@ miscounted-as deletes table dues others sheets place at same is = record {
   told = is.told;
 }
 
-module _ (info : TableInfo) (list : WriteIds) (inserts deletes : List DirFile) where
+-- what is kept of a list is in it
+kept-contained : {X : Type 0} (p : X → Bool) (xs : List X) (x : X) → Contains (filter p xs) x → Contains xs x
+kept-contained p [] x among = among
+kept-contained p (y ∷ xs) x among = by (p y) among (kept-contained p xs x)
+  where
+    more : Contains xs x → Contains (y ∷ xs) x
+    more h = let low = h.1 in (suc h.0, omega (arith, low), h.2)
+
+    at : (i : ℕ) → i < length (y ∷ filter p xs) → get_or (y ∷ filter p xs) i x ≡ x → (Contains (filter p xs) x → Contains xs x) → Contains (y ∷ xs) x
+    at zero low e rest = (zero, omega arith, e)
+    at (suc i) low e rest = more (rest (i, omega (arith, low), e))
+
+    by : (b : Bool) → Contains (cond b (y ∷ filter p xs) (filter p xs)) x → (Contains (filter p xs) x → Contains xs x) → Contains (y ∷ xs) x
+    by true h rest = at h.0 h.1 h.2 rest
+    by false h rest = more (rest h)
+
+module _ (wants : List ℕ → Bool) (info : TableInfo) (wanted : Wanted) where
+  abbrev list : WriteIds
+  list = wanted.listing.list
+
   abbrev pub of_kind : Bool → List DirFile
-  of_kind true = deletes
-  of_kind false = inserts
+  of_kind true = wanted.listing.deletes.items
+  of_kind false = wanted.listing.inserts.items
 
-  abbrev are-sheets : (kind : Bool) (files : Tree) (sheets : List Sheet) → AreTaken info.table list files inserts deletes → map sheet_file sheets ≡ of_kind kind
-      → Rattle.std.specs.List.AllByRecursion (Rattle.hv_table_rows.specs.Reading.IsSheet kind files) sheets → AreSheets kind info list files sheets
-  are-sheets true files sheets taken are each = record { named = taken.named; listed = taken.listed; files_are = are ∙ taken.deletes_are; each = each }
-  are-sheets false files sheets taken are each = record { named = taken.named; listed = taken.listed; files_are = are ∙ taken.inserts_are; each = each }
+  kind-is : (kind : Bool) (files : Tree) (taken : AreWanted wants info files wanted) → of_kind kind ≡ files_wanted wants (files_taken kind list taken.named)
+  kind-is true files taken = taken.deletes_are
+  kind-is false files taken = taken.inserts_are
 
-  beside-own : (kind : Bool) (files : Tree) (sheets : List Sheet) (taken : AreTaken info.table list files inserts deletes) (are : map sheet_file sheets ≡ of_kind kind)
-      (each : Rattle.std.specs.List.AllByRecursion (Rattle.hv_table_rows.specs.Reading.IsSheet kind files) sheets) → AreOwn inserts
-      → AreOwn (files_taken false list (are-sheets kind files sheets taken are each).named)
-  beside-own true files sheets taken are each own = subst AreOwn taken.inserts_are own
-  beside-own false files sheets taken are each own = subst AreOwn taken.inserts_are own
+  told-one : (s : Store) (kind : Bool) (others : List Due) (told : FilePlace) → AreAsMany wanted.dues.items (dues_wanted wants others) → AreWanted wants info s.tree wanted
+      → IsKindUncounted kind info.table.0 s.tree (of_kind kind) (is_asked wanted kind) wanted.dues.items told → IsToldUncounted wants info list s.tree others told
+  told-one s kind others told same taken is =
+      let own = taken.asks kind is.asks in
+      record {
+        deletes = kind;
+        sheets = is.sheets;
+        read = record { named = taken.named; listed = taken.listed; files_are = is.files_are ∙ kind-is kind s.tree taken; each = is.each };
+        own = own.0;
+        beside = own.1;
+        place = is.place;
+        place_is = is.place_is;
+        miscounted = miscounted-as kind info.table.0 wanted.dues.items (dues_wanted wants others) is.sheets is.place told.at same is.miscounted;
+      }
 
-  told-one : (s : Store) (kind : Bool) (dues others : List Due) (told : FilePlace) → AreAsMany dues others → AreTaken info.table list s.tree inserts deletes
-      → IsKindUncounted kind info.table.0 s.tree (of_kind kind) inserts dues told → IsToldUncounted info list s.tree others told
-  told-one s kind dues others told same taken is = record {
-    deletes = kind;
-    sheets = is.sheets;
-    read = are-sheets kind s.tree is.sheets taken is.files_are is.each;
-    beside = beside-own kind s.tree is.sheets taken is.files_are is.each is.own;
-    place = is.place;
-    place_is = is.place_is;
-    miscounted = miscounted-as kind info.table.0 dues others is.sheets is.place told.at same is.miscounted;
-  }
-
-  uncounted-one : (files : Tree) (dues : List Due) (told : FilePlace) → IsToldUncounted info list files dues told → IsUncounted info list files dues
+  uncounted-one : (files : Tree) (dues : List Due) (told : FilePlace) → IsToldUncounted wants info list files dues told → IsUncounted wants info list files dues
   uncounted-one files dues told is = record {
     deletes = is.deletes;
     sheets = is.sheets;
     read = is.read;
-    own = is.miscounted.own;
+    own = is.own;
     beside = is.beside;
     differ = λ counted. is.miscounted.differ (counted is.miscounted.write is.place.partition);
   }
 
-  kind-is : (kind : Bool) (files : Tree) (taken : AreTaken info.table list files inserts deletes) → of_kind kind ≡ files_taken kind list taken.named
-  kind-is true files taken = taken.deletes_are
-  kind-is false files taken = taken.inserts_are
+  -- a file that is wanted is one of those that are taken
+  damaged-one : (s : Store) (kind : Bool) (told : FilePlace) (taken : AreWanted wants info s.tree wanted) → IsOneDamaged kind s.tree (of_kind kind) told
+      → IsOneDamaged kind s.tree (files_taken kind list taken.named) told
+  damaged-one s kind told taken is = record {
+    one = is.one;
+    among = kept-contained (is_file_wanted wants) (files_taken kind list taken.named) is.one
+        (subst (λ (files : List DirFile). Contains files is.one) (kind-is kind s.tree taken) is.among);
+    file = is.file;
+  }
 
-  pub amiss-so : (o : Option Store) (kind : Bool) (dues others : List Due) (why : RowFault) → AreAsMany dues others → Tells o (λ s. AreTaken info.table list s.tree inserts deletes)
-      → Tells o (λ s. TellsKind kind info.table.0 s.tree (of_kind kind) inserts dues why) → IsDamage why → Tells o (λ s. IsAmissOf info list s.tree others)
-  amiss-so None kind dues others why same taken told damage = tt
-  amiss-so (Some s) kind dues others (fault.House why) same taken told damage = absurd damage
-  amiss-so (Some s) kind dues others (fault.Damaged place) same taken (inl one) damage =
-      inl (spoiled-told info list (Some s) (places_of info.table s.tree) taken.named kind (of_kind kind) (fault.Damaged place) refl taken.listed (kind-is kind s.tree taken) one tt)
-  amiss-so (Some s) kind dues others (fault.Damaged place) same taken (inr is) damage = inr (uncounted-one s.tree others place (told-one s kind dues others place same taken is))
-
--- ---- of the files that were listed
-
-module _ (info : TableInfo) (list ids : WriteIds) (is : list ≡ ids) (first : Option Store) (inserts deletes : List DirFile)
-    (taken : Tells first (λ s. AreTaken info.table list s.tree inserts deletes)) (dues others : List Due) (same : AreAsMany dues others) where
-  pub amiss-taken : (kind : Bool) (why : RowFault) (second : Option Store) → second ≡ first
-      → Tells second (λ s. TellsKind kind info.table.0 s.tree (of_kind info list inserts deletes kind) inserts dues why) → IsDamage why → Tells first (λ s. IsAmissOf info ids s.tree others)
-  amiss-taken kind why second at told damage =
-      subst (λ l. Tells first (λ s. IsAmissOf info l s.tree others)) is
-      (amiss-so info list inserts deletes first kind dues others why same taken
-      (subst (λ (x : Option Store). Tells x (λ s. TellsKind kind info.table.0 s.tree (of_kind info list inserts deletes kind) inserts dues why)) at told) damage)
+  pub amiss-so : (o : Option Store) (kind : Bool) (others : List Due) (why : RowFault) → AreAsMany wanted.dues.items (dues_wanted wants others)
+      → Tells o (λ s. AreWanted wants info s.tree wanted)
+      → Tells o (λ s. TellsKind kind info.table.0 s.tree (of_kind kind) (is_asked wanted kind) wanted.dues.items why) → IsDamage why
+      → Tells o (λ s. IsAmissOf wants info list s.tree others)
+  amiss-so None kind others why same taken told damage = tt
+  amiss-so (Some s) kind others (fault.House why) same taken told damage = absurd damage
+  amiss-so (Some s) kind others (fault.Damaged place) same taken (inl one) damage =
+      inl (spoiled-told info list (Some s) (places_of info.table s.tree) taken.named kind (files_taken kind list taken.named) (fault.Damaged place) refl taken.listed refl
+      (damaged-one s kind place taken one) tt)
+  amiss-so (Some s) kind others (fault.Damaged place) same taken (inr is) damage = inr (uncounted-one s.tree others place (told-one s kind others place same taken is))

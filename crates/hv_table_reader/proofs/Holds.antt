@@ -12,7 +12,7 @@ use Rattle.hv_trail.specs.declared.trail.TrailItem.{TrailItem}
 use Rattle.hv_trail.specs.declared.trail.TrailItem.TheVariants.{Marked}
 use Rattle.hv_trail.specs.Trail.{book_of}
 use Rattle.hv_trail.specs.Own.{IsOf}
-use Rattle.hv_trail.specs.Steps.{HouseSeen, Call, Read, Ask, Outcome, Done, Closed, Refused, Failed, gains, shuts, Step}
+use Rattle.hv_trail.specs.Steps.{HouseSeen, Call, Read, Ask, Outcome, Done, Conflict, Closed, Starved, Refused, Failed, gains, shuts, StarvesBy, Step}
 use Rattle.hv_actor.specs.Acting.{IsLater, Went, Held, among, known}
 use Rattle.hv_actor.proofs.Weaving.{later-further}
 use Rattle.hv_acts.specs.hv_telling.specs.hv_house.specs.declared.fault.HouseFault.{HouseFault}
@@ -23,7 +23,7 @@ use Rattle.hv_acts.specs.hv_telling.specs.hv_house.specs.declared.listing.GetFau
 use Rattle.hv_acts.specs.hv_telling.specs.hv_house.specs.declared.listing.GetFault.TheVariants as get_fault
 use Rattle.hv_acts.specs.hv_telling.specs.hv_house.specs.Listing.{get_outcome}
 use Rattle.hv_acts.specs.hv_telling.specs.hv_house.specs.Steps.{fault_outcome, broken_by}
-use Rattle.hv_acts.specs.hv_telling.specs.hv_house.proofs.Reading.{contains-last}
+use Rattle.hv_acts.specs.hv_telling.specs.hv_house.proofs.Readings.{contains-last}
 use Rattle.hv_acts.specs.declared.told.ToldHouse.{ToldHouse}
 use Rattle.hv_acts.specs.declared.fault.ActFault.{ActFault}
 use Rattle.hv_acts.specs.declared.fault.ActFault.TheVariants as act
@@ -39,6 +39,15 @@ use Rattle.hv_table_reader.specs.Tables.{LeavesSeeing, LooksOver, IsListFault, f
 -- a house that was open is open behind any call but one whose journal failed
 pub open-behind : (outcome : Outcome) (before now : Bool) → now ≡ before || shuts outcome → before ≡ false → shuts outcome ≡ false → now ≡ false
 open-behind outcome before now closed running opens = closed ∙ ap (λ (b : Bool). b || shuts outcome) running ∙ opens
+
+-- one that is closed for want of memory stays so
+pub starved-on : (outcome : Outcome) (was is : Bool) → StarvesBy outcome was is → was ≡ true → is ≡ true
+starved-on Done was is same e = same ∙ e
+starved-on (Conflict with_ table partition) was is same e = same ∙ e
+starved-on (Failed count) was is same e = same ∙ e
+starved-on Closed was is same e = same ∙ e
+starved-on Starved was is same e = same
+starved-on Refused was is same e = same ∙ e
 
 -- Where the house was open and is closed, its store's count rose.
 abbrev pub ShutsRisen : {D : Type 0} → (D → ℕ) → HouseSeen D → HouseSeen D → Type 0
@@ -78,7 +87,8 @@ module _ {D : Type 0} (told : D → Option Store) (faults : D → ℕ) (between 
             rest = step.rest;
             count = up;
             closed = λ shut. step.closed ∙ ap (λ (b : Bool). b || shuts outcome) shut;
-            rises = shut_so;
+            starved = starved-on outcome (seen_in house).starved (seen_in now).starved step.starved;
+            rises = λ was is fed. shut_so was is;
           });
         }
 
@@ -127,7 +137,7 @@ module _ {D : Type 0} (told : D → Option Store) (faults : D → ℕ) (between 
           house = house;
           kept = kept;
           was = running;
-          is = step.closed ∙ ap (λ (b : Bool). b || true) running;
+          is = (step.closed ∙ ap (λ (b : Bool). b || true) running, step.starved ∙ (kept.whole running).ready.kept.fed);
           same = step.trail ∙ append-nil (trail_in house);
           cut = (leaves running).0;
         })

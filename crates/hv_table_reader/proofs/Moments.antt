@@ -31,7 +31,7 @@ use Rattle.hv_acts.specs.declared.told.ToldHouse.{ToldHouse}
 use Rattle.hv_acts.specs.Told.{IsWholeOrClosed, seen_in, trail_in, book_in}
 use Rattle.hv_acts.specs.Counting.{AreAsMany}
 use Rattle.hv_acts.specs.Going.{IsOpenHouse, AddsOwn}
-use Rattle.hv_acts.specs.Reading.{HasPlace, ReadsTable, HasListed, HasGot, HasMissed, ReadsOnTold, IsGotStill, AllGotStill, state_then, info_then, IsThere}
+use Rattle.hv_acts.specs.Reading.{HasPlace, ReadsTable, HasListed, HasGot, HasMissed, ReadsOnTold, IsGotStill, AllGotStill, state_then, IsThere}
 use Rattle.hv_acts.proofs.Readings.{then-same, found-there, reads-at}
 use Rattle.hv_acts.proofs.Listed.{all-got}
 use Rattle.hv_table_reader.specs.Steady.{GoesBehind, IsSteady, AreSteady, IsNamedThen, AreListedSteady, IsListing, bytes_got}
@@ -70,9 +70,6 @@ module _ {D : Type 0} (told : D → Option Store) where
   -- it is told as it was
   pub told-behind : (a b : ToldHouse D) → GoesBehind (seen_in a) (seen_in b) → IsToldHouse told a.house → IsToldHouse told b.house
   told-behind a b behind is = subst (IsTold told) (sym behind.start) is
-
-  pub told-before : (a b : ToldHouse D) → GoesBehind (seen_in a) (seen_in b) → IsToldHouse told b.house → IsToldHouse told a.house
-  told-before a b behind is = subst (IsTold told) behind.start is
 
   pub steady-on : (o : Option Store) (by : TxnId) (a b : HouseSeen D) (place : Place) → GoesBehind a b → IsSteady told o by a place → IsSteady told o by b place
   steady-on o by a b place behind steady = record {
@@ -179,11 +176,6 @@ named-on before now place info front has named = record {
   name = named.name;
   named = named.named ∙ ap (λ (s : State). option_map info_in (table_of_name named.name s.tables)) (sym (then-same before now front place has));
 }
-
-pub found-on : (before now : List TrailItem) (place : ℕ) (name : List ℕ) (found : Option TableInfo) → IsFront before now → HasPlace before place
-    → found ≡ info_then before place name → found ≡ info_then now place name
-found-on before now place name found front has is =
-    is ∙ ap (λ (s : State). option_map info_in (table_of_name name s.tables)) (sym (then-same before now front place has))
 
 pub dues-at : (trail : List TrailItem) (book : List Entry) (place : ℕ) (table : TableId) (dues : List Due) → IsFront book (book_of trail) → place ≤ length book
     → AreAsMany dues (dues_in (state_then trail place) table.0) → AreAsMany dues (dues_in (state_of (take place book)) table.0)

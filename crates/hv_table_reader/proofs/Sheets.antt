@@ -26,7 +26,7 @@ use Rattle.hv_rowfile.proofs.Books.{file_one}
 use Rattle.hv_history.specs.declared.entry.FilePlace.{FilePlace}
 use Rattle.hv_table_rows.specs.declared.row_at.RowAt.{RowAt}
 use Rattle.hv_table_rows.specs.Orders.{row_at_cmp}
-use Rattle.hv_table_rows.specs.Reading.{HoldsAt, LacksAt, Sheet, sheet_file, IsSheet, Reads, founds_in, deleted_in, at_of, is_gone, left_of, left_in, AreOnce, AreRows, IsSpoiled}
+use Rattle.hv_table_rows.specs.Reading.{HoldsAt, LacksAt, Sheet, sheet_file, IsSheet, Reads, founds_in, deleted_in, at_of, is_gone, left_of, left_in, files_wanted, AreOnce, AreRows, IsSpoiled}
 use Rattle.hv_table_rows.specs.Amiss.{first_amiss}
 use Rattle.hv_table_rows.specs.Damage.{IsWrongAt, told_place, IsOneDamaged, IsOneSpoiled}
 use Rattle.hv_table_rows.proofs.Names.{all-append}
@@ -34,8 +34,9 @@ use Rattle.hv_choosing.proofs.Texts.{one, filter-agree}
 use Rattle.hv_table_rows.proofs.Fronts.{none-amiss, own-none}
 use Rattle.hv_table_reader.specs.declared.fault.RowFault.{RowFault}
 use Rattle.hv_table_reader.specs.declared.fault.RowFault.TheVariants as fault
-use Rattle.hv_acts.specs.hv_telling.specs.hv_house.specs.Listing.{AreTaken}
 use Rattle.hv_table_reader.specs.Damage.{IsDamage, TellsPlace, TellsFile, TellsOne}
+use Rattle.hv_table_reader.specs.declared.wanting.Wanted.{Wanted}
+use Rattle.hv_table_reader.specs.Steady.{AreWanted}
 
 -- ---- one file
 
@@ -155,11 +156,12 @@ left-all gone f (sheet ∷ sheets) =
     ∙ ap (left_of gone) (sym (flat_map-cons f sheet sheets))
 
 module _ (info : TableInfo) (list : WriteIds) where
-  rows-one : (s : Store) (places : List Place) (named inserted deleted : List DirFile) (gone others : List RowAt) (rows once : List Found) → places ≡ places_of info.table s.tree
-      → AreListed places named → deleted ≡ files_taken true list named → inserted ≡ files_taken false list named → IsPermutation gone others
+  rows-one : (wants : List ℕ → Bool) (s : Store) (places : List Place) (named inserted deleted : List DirFile) (gone others : List RowAt) (rows once : List Found) → places ≡ places_of info.table s.tree
+      → AreListed places named → deleted ≡ files_wanted wants (files_taken true list named)
+      → inserted ≡ files_wanted wants (files_taken false list named) → IsPermutation gone others
       → Reads true s.tree deleted (deleted_in list) gone → Reads false s.tree inserted (left_in list others info.shape) rows → AreOnce found_cmp rows once
-      → AreRows info list s.tree once
-  rows-one s places named inserted deleted gone others rows once are listed dare iare permuted deletes inserts risen = record {
+      → AreRows wants info list s.tree once
+  rows-one wants s places named inserted deleted gone others rows once are listed dare iare permuted deletes inserts risen = record {
     named = named;
     listed = subst (λ (ps : List Place). AreListed ps named) are listed;
     gone = gone;
@@ -194,20 +196,14 @@ module _ (info : TableInfo) (list : WriteIds) where
       }
   spoiled-told (Some s) places named deletes taken (fault.House cause) are listed tare one damage = absurd damage
 
--- ---- of the files that were listed
+-- ---- of the files that are wanted
 
-module _ (info : TableInfo) (list ids : WriteIds) (same : list ≡ ids) (first : Option Store) (inserted deleted : List DirFile)
-    (taken : Tells first (λ s. AreTaken info.table list s.tree inserted deleted)) where
-  pub rows-taken : (second third : Option Store) → second ≡ first → third ≡ second → (gone others : List RowAt) (rows once : List Found) → IsPermutation gone others
-      → Tells second (λ s. Reads true s.tree deleted (deleted_in list) gone) → Tells third (λ s. Reads false s.tree inserted (left_in list others info.shape) rows)
-      → AreOnce found_cmp rows once → Tells first (λ s. AreRows info ids s.tree once)
-  rows-taken second third at here gone others rows once permuted deletes inserts risen =
-      by first taken (subst (λ (x : Option Store). Tells x (λ s. Reads true s.tree deleted (deleted_in list) gone)) at deletes)
-      (subst (λ (x : Option Store). Tells x (λ s. Reads false s.tree inserted (left_in list others info.shape) rows)) (here ∙ at) inserts)
-    where
-      by : (o : Option Store) → Tells o (λ s. AreTaken info.table list s.tree inserted deleted) → Tells o (λ s. Reads true s.tree deleted (deleted_in list) gone)
-          → Tells o (λ s. Reads false s.tree inserted (left_in list others info.shape) rows) → Tells o (λ s. AreRows info ids s.tree once)
-      by None are ds is = tt
-      by (Some s) are ds is =
-          subst (λ l. AreRows info l s.tree once) same
-          (rows-one info list s (places_of info.table s.tree) are.named inserted deleted gone others rows once refl are.listed are.deletes_are are.inserts_are permuted ds is risen)
+module _ (wants : List ℕ → Bool) (info : TableInfo) (wanted : Wanted) where
+  pub rows-taken : (o : Option Store) → Tells o (λ s. AreWanted wants info s.tree wanted) → (gone others : List RowAt) (rows once : List Found) → IsPermutation gone others
+      → Tells o (λ s. Reads true s.tree wanted.listing.deletes.items (deleted_in wanted.listing.list) gone)
+      → Tells o (λ s. Reads false s.tree wanted.listing.inserts.items (left_in wanted.listing.list others info.shape) rows) → AreOnce found_cmp rows once
+      → Tells o (λ s. AreRows wants info wanted.listing.list s.tree once)
+  rows-taken None are gone others rows once permuted ds is risen = tt
+  rows-taken (Some s) are gone others rows once permuted ds is risen =
+      rows-one info wanted.listing.list wants s (places_of info.table s.tree) are.named wanted.listing.inserts.items wanted.listing.deletes.items gone others rows once refl
+      are.listed are.deletes_are are.inserts_are permuted ds is risen

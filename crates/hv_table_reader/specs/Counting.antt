@@ -1,5 +1,5 @@
 -- What is counted of files that are read, and what is told where they don't have as many records as commits say.
-use Rattle.std.specs.Prelude.{◌≡◌, ◌⊎◌, ℕ, Bool, Option, List, [], ◌∷◌, length, map}
+use Rattle.std.specs.Prelude.{◌≡◌, ◌⊎◌, ℕ, Bool, true, Option, List, [], ◌∷◌, length, map}
 use Rattle.std.specs.List.{AllByRecursion}
 use Rattle.hv_base.specs.Told.{Tells}
 use Rattle.hv_shelf.specs.declared.place.Place.{Place}
@@ -38,38 +38,38 @@ TellsUncounted deletes table dues sheets (fault.Damaged told) =
     (place : Place) × (told ≡ told_place place told.at) × IsMiscounted deletes table dues sheets place told.at
 TellsUncounted deletes table dues sheets (fault.House why) = Unit {0}
 
--- ---- the files of a kind that are taken, beside those of the rows
+-- ---- the files of a kind that are taken
 
--- they were read, and have as many records as commits say
-pub record HasKindCounts (deletes : Bool) (files : Tree) (taken beside : List DirFile) (dues : List Due) : Type 0 where
+-- they were read, and have as many records as commits say, where that is asked
+pub record HasKindCounts (deletes : Bool) (files : Tree) (taken : List DirFile) (asked : Bool) (dues : List Due) : Type 0 where
   pub sheets : List Sheet
   pub files_are : map sheet_file sheets ≡ taken
   pub each : AllByRecursion (IsSheet deletes files) sheets
-  pub counted : AreOwn taken → AreOwn beside → IsCounted deletes dues sheets
+  pub counted : AreOwn taken → asked ≡ true → IsCounted deletes dues sheets
 
 -- they were read and haven't, and it is what is told of them
-pub record IsKindUncounted (deletes : Bool) (table : ℕ) (files : Tree) (taken beside : List DirFile) (dues : List Due)
+pub record IsKindUncounted (deletes : Bool) (table : ℕ) (files : Tree) (taken : List DirFile) (asked : Bool) (dues : List Due)
     (told : FilePlace) : Type 0 where
   pub sheets : List Sheet
   pub files_are : map sheet_file sheets ≡ taken
   pub each : AllByRecursion (IsSheet deletes files) sheets
-  pub own : AreOwn beside
+  pub asks : asked ≡ true
   pub place : Place
   pub place_is : told ≡ told_place place told.at
   pub miscounted : IsMiscounted deletes table dues sheets place told.at
 
--- where damage is told of counts, those of the rows stand in own directories
-abbrev pub AreOwnBeside : List DirFile → RowFault → Type 0
-AreOwnBeside beside (fault.Damaged told) = AreOwn beside
-AreOwnBeside beside (fault.House why) = Unit {0}
+-- where damage is told of counts, they were asked
+abbrev pub IsOfAsked : Bool → RowFault → Type 0
+IsOfAsked asked (fault.Damaged told) = asked ≡ true
+IsOfAsked asked (fault.House why) = Unit {0}
 
 -- where damage is told, one of them doesn't stand, or they don't have as many records
-abbrev pub TellsKind : Bool → ℕ → Tree → List DirFile → List DirFile → List Due → RowFault → Type 0
-TellsKind deletes table files taken beside dues (fault.Damaged told) =
-    IsOneDamaged deletes files taken told ⊎ IsKindUncounted deletes table files taken beside dues told
-TellsKind deletes table files taken beside dues (fault.House why) = Unit {0}
+abbrev pub TellsKind : Bool → ℕ → Tree → List DirFile → Bool → List Due → RowFault → Type 0
+TellsKind deletes table files taken asked dues (fault.Damaged told) =
+    IsOneDamaged deletes files taken told ⊎ IsKindUncounted deletes table files taken asked dues told
+TellsKind deletes table files taken asked dues (fault.House why) = Unit {0}
 
--- ---- the files of a table that are read
+-- ---- the files of a table's partitions that are wanted
 
-abbrev pub IsAmissOf : TableInfo → WriteIds → Tree → List Due → Type 0
-IsAmissOf info list files dues = IsSpoiledOf info list files ⊎ IsUncounted info list files dues
+abbrev pub IsAmissOf : (List ℕ → Bool) → TableInfo → WriteIds → Tree → List Due → Type 0
+IsAmissOf wants info list files dues = IsSpoiledOf info list files ⊎ IsUncounted wants info list files dues

@@ -1,18 +1,23 @@
 -- Files that are read by several acts: of a told house each has, whenever it is got for an open transaction, the bytes that it had when it was
 -- listed; and so their rows are those that stood in the table.
-use Rattle.std.specs.Prelude.{◌≡◌, ℕ, ◌≤◌, Bool, true, Option, Some, List, length, take}
+use Rattle.std.specs.Prelude.{◌≡◌, ℕ, ◌≤◌, Bool, true, false, Option, Some, List, length, take}
 use Rattle.std.specs.Global.{Vec}
 use Rattle.std.specs.Option.{option_map}
 use Rattle.std.specs.FinMap as tree
 use Rattle.hv_base.specs.Told.{Tells}
 use Rattle.hv_base.specs.declared.ids.TxnId.{TxnId}
 use Rattle.hv_shelf.specs.declared.place.Place.{Place}
-use Rattle.hv_shelf.specs.Disk.{Store}
+use Rattle.hv_shelf.specs.Disk.{Store, Tree, places_of}
 use Rattle.hv_logic.specs.declared.catalog.TableInfo.{TableInfo}
 use Rattle.hv_logic.specs.declared.effect.Found.{Found}
 use Rattle.hv_choosing.specs.declared.listing.DirFile.{DirFile}
+use Rattle.hv_choosing.specs.Listing.{AreListed}
+use Rattle.hv_choosing.specs.Taken.{files_taken}
 use Rattle.hv_law_visible.specs.Members.{IsIn}
+use Rattle.hv_table_rows.specs.Reading.{files_wanted}
+use Rattle.hv_law_dues.specs.hv_counts.specs.Counts.{AreOwn}
 use Rattle.hv_acts.specs.hv_telling.specs.hv_house.specs.hv_law_read.specs.Reading.{ReadsAt}
+use Rattle.hv_history.specs.hv_meaning.specs.Needs.{rows_wanted}
 use Rattle.hv_history.specs.declared.entry.Entry.{Entry}
 use Rattle.hv_history.specs.declared.state.Table.{Table}
 use Rattle.hv_history.specs.State.{state_of, numbered, content_of}
@@ -26,6 +31,7 @@ use Rattle.hv_acts.specs.hv_telling.specs.hv_house.specs.Seeing.{ids_in}
 use Rattle.hv_acts.specs.declared.told.ToldHouse.{ToldHouse}
 use Rattle.hv_acts.specs.Told.{seen_in, book_in}
 use Rattle.hv_acts.specs.Reading.{HasGot, HasMissed, info_then}
+use Rattle.hv_table_reader.specs.declared.wanting.Wanted.{Wanted}
 
 -- ---- a house that goes on
 
@@ -62,6 +68,32 @@ pub record AreListedSteady {D : Type 0} (told : D → Option Store) (o : Option 
   pub inserts : AreSteady told o by before listing.inserts.items
   pub deletes : AreSteady told o by before listing.deletes.items
 
+-- ---- those of them that are read
+
+-- whether files of a kind are counted
+abbrev pub is_asked : Wanted → Bool → Bool
+is_asked wanted true = wanted.counts_deletes
+is_asked wanted false = wanted.counts_rows
+
+-- These of a table's files that are taken stand in the partitions that are wanted. Those of a kind are counted where all of the table's, and
+-- all of its rows', stand in own directories.
+pub record AreWanted (wants : List ℕ → Bool) (info : TableInfo) (files : Tree) (wanted : Wanted) : Type 0 where
+  pub named : List DirFile
+  pub listed : AreListed (places_of info.table files) named
+  pub inserts_are : wanted.listing.inserts.items ≡ files_wanted wants (files_taken false wanted.listing.list named)
+  pub deletes_are : wanted.listing.deletes.items ≡ files_wanted wants (files_taken true wanted.listing.list named)
+  pub asks : (kind : Bool) → is_asked wanted kind ≡ true
+      → AreOwn (files_taken kind wanted.listing.list named) × AreOwn (files_taken false wanted.listing.list named)
+
+-- they are got with the bytes that they have in this store, where one is told
+pub record AreWantedSteady {D : Type 0} (told : D → Option Store) (o : Option Store) (by : TxnId) (before : HouseSeen D)
+    (wants : List ℕ → Bool) (info : TableInfo) (wanted : Wanted) : Type 0 where
+  pub taken : Tells o (λ s. AreWanted wants info s.tree wanted)
+  pub inserts : AreSteady told o by before wanted.listing.inserts.items
+  pub deletes : AreSteady told o by before wanted.listing.deletes.items
+
+-- ---- files that were listed at some moment
+
 -- At some moment the house's book was this one, which is legal and had that place, its files stood in this store, and the transaction read the
 -- table. The table's files were listed then, and are got with the bytes that they had.
 pub record IsListing {D : Type 0} (told : D → Option Store) (now : ToldHouse D) (by : TxnId) (place : ℕ)
@@ -79,13 +111,13 @@ pub record IsListing {D : Type 0} (told : D → Option Store) (now : ToldHouse D
 
 -- ---- rows
 
--- they are those that stood at the place in the table of this description
-pub record HasRowsThen (now : List Entry) (place : ℕ) (info : TableInfo) (rows : List Found) : Type 0 where
+-- they are those that stood in the partitions that are wanted, in the one of these tables that has this description
+pub record HasRowsIn (tables : List Table) (wants : List ℕ → Bool) (info : TableInfo) (rows : List Found) : Type 0 where
   pub table : Table
-  pub here : numbered (state_of (take place now)).tables table.info.table.0 ≡ Some table
+  pub here : numbered tables table.info.table.0 ≡ Some table
   pub info_is : table.info ≡ info
-  pub rows_are : rows ≡ content_of table.writes
+  pub rows_are : rows ≡ rows_wanted wants (content_of table.writes)
 
--- where they are to be read
-abbrev pub HasReadThen : List Entry → ℕ → Bool → TableInfo → List Found → Type 0
-HasReadThen now place reads info rows = reads ≡ true → HasRowsThen now place info rows
+-- in that table, as it stood at the place
+abbrev pub HasRowsThen : List Entry → ℕ → (List ℕ → Bool) → TableInfo → List Found → Type 0
+HasRowsThen now place wants info rows = HasRowsIn (state_of (take place now)).tables wants info rows

@@ -1,16 +1,10 @@
--- What is seen of a table by several acts, whatever others do between; and what these acts leave.
+-- What acts that read a table leave, whatever others do between.
 -- Source: Hive Transactions; that each act is one hold of the house is this project's profile.
-use Rattle.std.specs.Prelude.{◌≡◌, ◌⊎◌, ℕ, ◌<◌, ◌≤◌, Bool, false, if◌then◌else◌, Option, Some, None, List, [], Result, Ok, Err, IfOk, IfErr}
+use Rattle.std.specs.Prelude.{◌⊎◌, ℕ, ◌<◌, ◌≤◌, Option, None, List, [], Result, Ok, Err, IfOk, IfErr}
 use Rattle.std.specs.Global.{Vec}
-use Rattle.std.specs.Option.{option_map}
 use Rattle.hv_base.specs.declared.ids.TxnId.{TxnId}
 use Rattle.hv_shelf.specs.Disk.{Store}
-use Rattle.hv_logic.specs.declared.seen.Seen.{Seen}
-use Rattle.hv_history.specs.hv_meaning.specs.Meaning.{info_of}
 use Rattle.hv_history.specs.declared.entry.Cause.TheVariants as cause
-use Rattle.hv_history.specs.declared.state.Table.{Table}
-use Rattle.hv_history.specs.State.{content_of}
-use Rattle.hv_stands.specs.Reading.{table_of_name}
 use Rattle.hv_trail.specs.declared.trail.TrailItem.{TrailItem}
 use Rattle.hv_acts.specs.hv_telling.specs.hv_house.specs.declared.fault.HouseFault.{HouseFault}
 use Rattle.hv_acts.specs.hv_telling.specs.hv_house.specs.declared.fault.HouseFault.TheVariants as house_fault
@@ -18,14 +12,11 @@ use Rattle.hv_acts.specs.hv_telling.specs.hv_house.specs.declared.listing.GetFau
 use Rattle.hv_acts.specs.hv_telling.specs.hv_house.specs.declared.listing.GetFault.TheVariants as get_fault
 use Rattle.hv_table_reader.specs.declared.fault.RowFault.{RowFault}
 use Rattle.hv_table_reader.specs.declared.fault.RowFault.TheVariants as row_fault
-use Rattle.hv_acts.specs.hv_telling.specs.hv_house.specs.Listing.{info_in}
-use Rattle.hv_acts.specs.hv_telling.specs.Telling.{IsToldHouse}
 use Rattle.hv_acts.specs.declared.told.ToldHouse.{ToldHouse}
 use Rattle.hv_acts.specs.declared.fault.ActFault.{ActFault}
 use Rattle.hv_acts.specs.declared.fault.ActFault.TheVariants as act_fault
 use Rattle.hv_acts.specs.Told.{trail_in}
 use Rattle.hv_acts.specs.Answers.{HasItsMark}
-use Rattle.hv_acts.specs.Reading.{state_then}
 use Rattle.hv_acts.specs.Going.{faults_in, IsOpenHouse, AddsOwn, IsShutBetween, IsShutNow}
 use Rattle.hv_actor.specs.Acting.{Setting, Moment}
 
@@ -92,18 +83,3 @@ abbrev pub missed_as : GetFault → Result (Option (Vec ℕ)) RowFault
 missed_as (get_fault.NotOpen at) = Err (row_fault.House house_fault.NoMemory)
 missed_as get_fault.NotFound = Ok None
 missed_as (get_fault.House why) = Err (row_fault.House why)
-
--- ---- what is seen
-
--- a table with the rows that stand in it, where they are to be read
-abbrev pub seen_with : Bool → Table → Seen
-seen_with reads table = record { info = table.info; rows = if reads then content_of table.writes else [] }
-
--- The table of that name is seen as it stood at a place, with its description, and without rows where none are to be read. In a told house its
--- rows are those that stood in it there.
-pub record IsSeenIn {D : Type 0} (told : D → Option Store) (now : ToldHouse D) (place : ℕ) (reads : Bool)
-    (name : List ℕ) (found : Option Seen) : Type 0 where
-  pub info : option_map info_of found ≡ option_map info_in (table_of_name name (state_then (trail_in now) place).tables)
-  pub bare : reads ≡ false → (seen : Seen) → found ≡ Some seen → seen.rows ≡ []
-  pub truly : IsToldHouse told now.house → found ≡ option_map (seen_with reads)
-      (table_of_name name (state_then (trail_in now) place).tables)

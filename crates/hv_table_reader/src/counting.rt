@@ -1,20 +1,20 @@
 //! Whether the files that were read have as many records as the commits of their table say.
 
-ghost use Rattle.std.specs.Prelude.{◌≡◌, ◌++◌, ◌∷◌, [], List, Option, Some, length, IfOk, IfErr, OnOk};
+ghost use Rattle.std.specs.Prelude.{◌≡◌, ◌++◌, ◌∷◌, [], true, List, Option, Some, length, IfOk, IfErr, OnOk};
 ghost use Rattle.std.specs.FinMap as tree;
 ghost use Rattle.hv_base.specs.Told.{Tells};
 ghost use Rattle.hv_shelf.specs.Disk.{Store};
 ghost use Rattle.hv_table_rows.specs.Reading.{HoldsAt, Sheet};
 ghost use Rattle.hv_law_dues.specs.hv_counts.specs.Counts.{AreOwn, IsCounted};
 ghost use Rattle.hv_law_dues.specs.hv_counts.specs.Miscounts.{AreCounted};
-ghost use Rattle.hv_table_reader.specs.Counting.{counted_at, TellsUncounted, AreOwnBeside};
+ghost use Rattle.hv_table_reader.specs.Counting.{counted_at, TellsUncounted, IsOfAsked};
 ghost use Rattle.hv_table_reader.specs.Damage.{IsSoft, IsShortDamage, TellsFile};
 
 use crate::damage::{damaged, records_of};
 use crate::fault::RowFault;
 use hv_base::{NoMemory, TableId};
 use hv_choosing::{DirFile, Span};
-use hv_law_dues::hv_counts::{Counted, Due, are_own, first_miscount};
+use hv_law_dues::hv_counts::{Counted, Due, first_miscount};
 use hv_rowfile::Rec;
 use hv_shelf::Place;
 use std::alloc::Global;
@@ -52,8 +52,7 @@ pub fn counted_records(
     Ok(recs)
 }
 
-/// Whether these files of a kind have as many records of each write id in each partition as the commits say. Where one of the rows' files
-/// beside them stands in no own directory nothing is asked: a base covers deletes that aren't taken.
+/// Whether these files of a kind have as many records of each write id in each partition as the commits say, where that is asked.
 ///
 /// # Errors
 /// `Damaged` where they don't, by the last file of the first write id and partition that differ, and its length. `NoMemory`.
@@ -62,20 +61,20 @@ pub fn check_counts(
     deletes: bool,
     table: TableId,
     files: &[DirFile],
-    beside: &[DirFile],
+    asked: bool,
     counts: &[Counted],
     dues: &[Due],
 ) -> Result<(), RowFault>
     requires { length counts.now ≡ length files.now }
     ensures counted { (sheets : List Sheet) → AreCounted deletes files.now counts.now sheets
-        → OnOk result (AreOwn files.now → AreOwn beside.now → IsCounted deletes dues.now sheets) }
+        → OnOk result (AreOwn files.now → asked ≡ true → IsCounted deletes dues.now sheets) }
     ensures told { (sheets : List Sheet) → AreCounted deletes files.now counts.now sheets
         → IfErr result (TellsUncounted deletes table.0 dues.now sheets) }
-    ensures own { IfErr result (AreOwnBeside beside.now) }
+    ensures asks { IfErr result (IsOfAsked asked) }
     ensures soft { IfErr result IsSoft }
     ensures short { IfErr result IsShortDamage }
 {
-    if !are_own(beside) {
+    if !asked {
         return Ok(());
     }
     match first_miscount(alloc, deletes, table, files, counts, dues)? {

@@ -10,9 +10,10 @@ mod damage;
 mod fault;
 mod laws;
 mod reading;
-mod tables;
+mod wanting;
 
-pub use acting::show_book;
+pub use acting::{find_table, show_book};
 pub use fault::RowFault;
 pub use laws::{none_amiss, seen_is_content};
-pub use tables::see_table;
+pub use reading::read_rows;
+pub use wanting::Wants;

@@ -1,12 +1,13 @@
 //! The rows of a table, read from its files act by act.
 
-ghost use Rattle.std.specs.Prelude.{◌≡◌, ◌++◌, ◌∷◌, [], false, true, Option, List, IfOk, IfErr, IsSorted};
+ghost use Rattle.std.specs.Prelude.{◌≡◌, ◌++◌, ◌∷◌, [], ℕ, Bool, false, true, Option, List, IfOk, IfErr, IsSorted};
 ghost use Rattle.hv_base.specs.Told.{Tells};
 ghost use Rattle.hv_shelf.specs.Disk.{Store};
 ghost use Rattle.hv_choosing.specs.Dirs.{span_of};
 ghost use Rattle.hv_table_rows.specs.Orders.{row_at_cmp};
 ghost use Rattle.hv_table_rows.specs.Reading.{HoldsAt, Reads, deleted_in, left_in, AreRows};
 ghost use Rattle.hv_law_dues.specs.hv_counts.specs.declared.due.Due.{Due};
+ghost use Rattle.hv_law_dues.specs.hv_counts.specs.Counts.{dues_wanted};
 ghost use Rattle.hv_acts.specs.hv_telling.specs.Telling.{IsToldHouse};
 ghost use Rattle.hv_acts.specs.Told.{seen_in, trail_in, book_in};
 ghost use Rattle.hv_acts.specs.Counting.{AreAsMany};
@@ -15,16 +16,16 @@ ghost use Rattle.hv_acts.specs.Reading.{ReadsTable};
 ghost use Rattle.hv_table_reader.specs.Counting.{counted_at, CountsUpTo, HasKindCounts, TellsKind, IsAmissOf};
 ghost use Rattle.hv_table_reader.specs.Damage.{IsShortDamage, IsDamage, TellsFile, TellsOne};
 ghost use Rattle.hv_table_reader.specs.Tables.{LooksOver};
-ghost use Rattle.hv_table_reader.specs.Steady.{IsSteady, AreSteady, AreListedSteady, IsNamedThen, HasRowsThen};
+ghost use Rattle.hv_table_reader.specs.Steady.{IsSteady, AreSteady, AreWantedSteady, IsNamedThen, HasRowsThen};
 ghost use Rattle.hv_actor.specs.Acting.{among, known};
 
 use crate::acting::{count_dues, get_file, list_table};
 use crate::counting::{check_counts, counted_records};
 use crate::damage::damaged;
 use crate::fault::RowFault;
+use crate::wanting::{Wanted, Wants, narrowed};
 use hv_actor::Actor;
 use hv_acts::ToldHouse;
-use hv_acts::hv_telling::hv_house::Listing;
 use hv_base::{TableId, Text, TxnId};
 use hv_choosing::{DirFile, Span};
 use hv_law_dues::hv_counts::{Counted, Due};
@@ -166,8 +167,7 @@ fn read_left<D: Shelf + Drop, W: Actor<D, ToldHouse<D>>>(
     Ok(rows)
 }
 
-/// Where the rows stand that these files delete, by valid deleters, where the files have as many records as the commits say. Beside them the
-/// files of the rows are taken.
+/// Where the rows stand that these files delete, by valid deleters, where the files have as many records as the commits say, if that is asked.
 fn deleted_counted<D: Shelf + Drop, W: Actor<D, ToldHouse<D>>>(
     alloc: Global,
     actor: &mut W,
@@ -175,7 +175,7 @@ fn deleted_counted<D: Shelf + Drop, W: Actor<D, ToldHouse<D>>>(
     table: TableId,
     list: &WriteIdList,
     taken: &[DirFile],
-    beside: &[DirFile],
+    asked: bool,
     dues: &[Due],
 ) -> Result<Vec<RowAt>, RowFault>
     requires keeps { W.keeps actor.old }
@@ -186,19 +186,19 @@ fn deleted_counted<D: Shelf + Drop, W: Actor<D, ToldHouse<D>>>(
     ensures rows { (o : Option Store) → AreSteady D.told o by (seen_in (W.house actor.old)) taken.now
         → IfOk result (λ rows. Tells o (λ s. Reads true s.tree taken.now (deleted_in list.now) rows.items)) }
     ensures counted { (o : Option Store) → AreSteady D.told o by (seen_in (W.house actor.old)) taken.now
-        → IfOk result (λ _. Tells o (λ s. HasKindCounts true s.tree taken.now beside.now dues.now)) }
+        → IfOk result (λ _. Tells o (λ s. HasKindCounts true s.tree taken.now asked dues.now)) }
     ensures damage { (o : Option Store) → AreSteady D.told o by (seen_in (W.house actor.old)) taken.now
-        → IfErr result (λ fault. Tells o (λ s. TellsKind true table.0 s.tree taken.now beside.now dues.now fault)) }
+        → IfErr result (λ fault. Tells o (λ s. TellsKind true table.0 s.tree taken.now asked dues.now fault)) }
     ensures short { IfErr result IsShortDamage }
 {
     let mut counts = Vec::new(alloc);
     let rows = read_deleted(alloc, actor, by, list, taken, &mut counts)?;
-    check_counts(alloc, true, table, taken, beside, &counts, dues)?;
+    check_counts(alloc, true, table, taken, asked, &counts, dues)?;
     Ok(rows)
 }
 
 /// The rows that these files insert under valid write ids but for those that are gone, where the files have as many records as the commits
-/// say.
+/// say, if that is asked.
 fn left_counted<D: Shelf + Drop, W: Actor<D, ToldHouse<D>>>(
     alloc: Global,
     actor: &mut W,
@@ -207,6 +207,7 @@ fn left_counted<D: Shelf + Drop, W: Actor<D, ToldHouse<D>>>(
     list: &WriteIdList,
     taken: &[DirFile],
     gone: &[RowAt],
+    asked: bool,
     dues: &[Due],
 ) -> Result<Vec<Found>, RowFault>
     requires keeps { W.keeps actor.old }
@@ -219,41 +220,42 @@ fn left_counted<D: Shelf + Drop, W: Actor<D, ToldHouse<D>>>(
         → IfOk result (λ rows.
         Tells o (λ s. Reads false s.tree taken.now (left_in list.now gone.now info.now.shape) rows.items)) }
     ensures counted { (o : Option Store) → AreSteady D.told o by (seen_in (W.house actor.old)) taken.now
-        → IfOk result (λ _. Tells o (λ s. HasKindCounts false s.tree taken.now taken.now dues.now)) }
+        → IfOk result (λ _. Tells o (λ s. HasKindCounts false s.tree taken.now asked dues.now)) }
     ensures damage { (o : Option Store) → AreSteady D.told o by (seen_in (W.house actor.old)) taken.now
-        → IfErr result (λ fault. Tells o (λ s. TellsKind false info.now.table.0 s.tree taken.now taken.now dues.now
-        fault)) }
+        → IfErr result (λ fault. Tells o (λ s. TellsKind false info.now.table.0 s.tree taken.now asked dues.now fault)) }
     ensures short { IfErr result IsShortDamage }
 {
     let mut counts = Vec::new(alloc);
     let rows = read_left(alloc, actor, by, info, list, taken, gone, &mut counts)?;
-    check_counts(alloc, false, info.table, taken, taken, &counts, dues)?;
+    check_counts(alloc, false, info.table, taken, asked, &counts, dues)?;
     Ok(rows)
 }
 
-/// The rows of a table that files show that were listed: those of valid write ids, without those that a delete with a valid deleter names, by
-/// partition and identifier, each once, where the files have as many records as the commits say.
+/// The rows of a table that files show that were listed and stand in partitions that are wanted: those of valid write ids, without those that
+/// a delete with a valid deleter names, by partition and identifier, each once, where the files have as many records as the commits say.
 fn read_listed<D: Shelf + Drop, W: Actor<D, ToldHouse<D>>>(
     alloc: Global,
     actor: &mut W,
     by: TxnId,
     info: &TableInfo,
-    listing: &Listing,
-    dues: &[Due],
+    wanted: &Wanted,
 ) -> Result<Vec<Found>, RowFault>
     requires keeps { W.keeps actor.old }
     requires running { IsOpenHouse (W.house actor.old) }
     ensures keeps { W.keeps actor.new }
     ensures looks { LooksOver (among D.told D.faults W.between W.meanwhile) by
         (known (W.own actor.old) (W.house actor.old)) (known (W.own actor.new) (W.house actor.new)) result }
-    ensures rows { (o : Option Store) → AreListedSteady D.told o by (seen_in (W.house actor.old)) info.now listing.now
-        → IfOk result (λ rows. Tells o (λ s. AreRows info.now listing.now.list s.tree rows.items)) }
-    ensures damage { (o : Option Store) (others : List Due)
-        → AreListedSteady D.told o by (seen_in (W.house actor.old)) info.now listing.now
-        → AreAsMany dues.now others
-        → IfErr result (λ why. IsDamage why → Tells o (λ s. IsAmissOf info.now listing.now.list s.tree others)) }
+    ensures rows { (o : Option Store) (wants : List ℕ → Bool)
+        → AreWantedSteady D.told o by (seen_in (W.house actor.old)) wants info.now wanted.now
+        → IfOk result (λ rows. Tells o (λ s. AreRows wants info.now wanted.now.listing.list s.tree rows.items)) }
+    ensures damage { (o : Option Store) (wants : List ℕ → Bool) (others : List Due)
+        → AreWantedSteady D.told o by (seen_in (W.house actor.old)) wants info.now wanted.now
+        → AreAsMany wanted.now.dues.items (dues_wanted wants others)
+        → IfErr result (λ why. IsDamage why
+        → Tells o (λ s. IsAmissOf wants info.now wanted.now.listing.list s.tree others)) }
     ensures short { IfErr result IsShortDamage }
 {
+    let listing = &wanted.listing;
     let list = &listing.list;
     let gone = deleted_counted(
         alloc,
@@ -262,28 +264,40 @@ fn read_listed<D: Shelf + Drop, W: Actor<D, ToldHouse<D>>>(
         info.table,
         list,
         &listing.deletes,
-        &listing.inserts,
-        dues,
+        wanted.counts_deletes,
+        &wanted.dues,
     )?;
     let gone = rows_rising(gone)?;
-    let rows = left_counted(alloc, actor, by, info, list, &listing.inserts, &gone, dues)?;
+    let rows = left_counted(
+        alloc,
+        actor,
+        by,
+        info,
+        list,
+        &listing.inserts,
+        &gone,
+        wanted.counts_rows,
+        &wanted.dues,
+    )?;
     Ok(once(alloc, rows)?)
 }
 
-/// The rows of a table that its files show under the list that its write ids had at the place of the transaction's snapshot: those of the bases
-/// and deltas that are chosen in each partition whose write id is valid, without those that a chosen delete delta names with a valid deleter,
-/// by partition and identifier. The files are listed once and got one by one, each by an act. In a told house they are the rows that stood in
-/// the table there.
+/// The rows of a table's partitions that are wanted that its files show under the list that its write ids had at the place of the transaction's
+/// snapshot: those of the bases and deltas that are chosen in each of them whose write id is valid, without those that a chosen delete delta
+/// names with a valid deleter, by partition and identifier. The files are listed once, and those of these partitions are got one by one, each
+/// by an act, so that others may act between. In a told house they are the rows that stood in these partitions there.
 ///
 /// # Errors
 /// `Damaged` where a file that is to be read doesn't stand, or isn't one of its kind, bucket and write ids, or where the files don't have as
-/// many records as the commits say. Want of memory where the transaction has ended. Else what the house answered.
-pub fn read_rows<D: Shelf + Drop, W: Actor<D, ToldHouse<D>>>(
+/// many records as the commits say: never in a told house. Want of memory where the transaction has ended, too. Else what the house answered;
+/// a failed call on files is marked as this transaction's.
+pub fn read_rows<D: Shelf + Drop, W: Actor<D, ToldHouse<D>>, P: Wants>(
     alloc: Global,
     actor: &mut W,
     by: TxnId,
     place: u64,
     info: &TableInfo,
+    wants: &P,
 ) -> Result<Vec<Found>, RowFault>
     requires keeps { W.keeps actor.old }
     requires running { IsOpenHouse (W.house actor.old) }
@@ -292,12 +306,13 @@ pub fn read_rows<D: Shelf + Drop, W: Actor<D, ToldHouse<D>>>(
     ensures keeps { W.keeps actor.new }
     ensures looks { LooksOver (among D.told D.faults W.between W.meanwhile) by
         (known (W.own actor.old) (W.house actor.old)) (known (W.own actor.new) (W.house actor.new)) result }
-    ensures rows { IsToldHouse D.told (W.house actor.old).house
-        → IfOk result (λ rows. HasRowsThen (book_in (W.house actor.new)) place info.now rows.items) }
+    ensures rows { IsToldHouse D.told (W.house actor.old).house → IfOk result (λ rows.
+        HasRowsThen (book_in (W.house actor.new)) place (P.picks wants.now) info.now rows.items) }
     ensures undamaged { IsToldHouse D.told (W.house actor.old).house → IfErr result (λ why. IsDamage why → ⊥) }
     ensures short { IfErr result IsShortDamage }
 {
     let listing = list_table(alloc, actor, by, place, info)?;
     let dues = count_dues(alloc, actor, place, info.table)?;
-    read_listed(alloc, actor, by, info, &listing, &dues)
+    let wanted = narrowed(alloc, wants, listing, dues)?;
+    read_listed(alloc, actor, by, info, &wanted)
 }

@@ -12,8 +12,8 @@ use Rattle.hv_base.specs.Sorting.{sorted_by}
 use Rattle.hv_route.specs.Standing.{stands_in}
 use Rattle.hv_rowfile.specs.declared.record.Rec.{Rec}
 use Rattle.hv_rowfile.specs.Layout.{IsFile, file_spelling}
-use Rattle.hv_history.specs.declared.state.Written.{Written}
-use Rattle.hv_history.specs.State.{content_of, is_deleted}
+use Rattle.hv_stands.specs.hv_history.specs.declared.state.Written.{Written}
+use Rattle.hv_stands.specs.hv_history.specs.State.{content_of, is_deleted}
 use Rattle.hv_wids.specs.WriteIds.{WriteIds}
 use Rattle.hv_choosing.specs.declared.dir.Span.{Span}
 use Rattle.hv_choosing.specs.declared.listing.DirFile.{DirFile}
@@ -25,7 +25,7 @@ use Rattle.hv_table_rows.specs.declared.row_at.RowAt.{RowAt}
 use Rattle.hv_table_rows.specs.Orders.{row_at_cmp}
 use Rattle.hv_stands.proofs.StandingRows.{found-total as found_total}
 use Rattle.hv_table_rows.specs.Amiss.{IsWithin}
-use Rattle.hv_table_rows.specs.Reading.{Sheet, sheet_file, IsSheet, founds_in, deleted_in, at_of, is_gone, left_of, AreRows, IsSpoiled}
+use Rattle.hv_table_rows.specs.Reading.{Sheet, sheet_file, IsSheet, founds_in, deleted_in, at_of, is_gone, left_of, files_wanted, AreRows, IsSpoiled}
 use Rattle.hv_table_rows.proofs.Members.{In, all-in, contained, in-kept, kept-in, any-in, in-any, in-sorted, sorted-in, in-map, map-in, in-flat, flat-in, same-rising, one-of-rising}
 use Rattle.hv_table_rows.proofs.Shown.{IsReadable, Shows, own-records, one-write, IsSheetOf, sheet-of, taken-file, file_of_row, has-sheet, here, founds-of, deleted-of, HasItsFiles}
 
@@ -44,6 +44,11 @@ inserts_of written = written.inserts
 
 abbrev deletes_of : Written → List Found
 deletes_of written = written.deletes
+
+-- every partition is wanted
+pub wanted-all : (files : List DirFile) → files_wanted (λ partition. true) files ≡ files
+wanted-all [] = refl
+wanted-all (file ∷ files) = ap (λ more. file ∷ more) (wanted-all files)
 
 held-by : (deletes : Bool) (bucket : ℕ) (bytes : List ℕ) (records : List Rec) (file : Option (List ℕ)) → file ≡ Some bytes → HasRecords deletes bucket records file
     → IsFile deletes bucket records × (file ≡ Some (file_spelling deletes bucket records))
@@ -148,7 +153,7 @@ module _ (info : TableInfo) (list : WriteIds) (files : Tree) (writes : List Writ
 
   -- ---- the rows that are left
 
-  pub rows-content : (rows : List Found) → AreRows info list files rows → IsStrictlySortedBy found_cmp (content_of writes) → rows ≡ content_of writes
+  pub rows-content : (rows : List Found) → AreRows (λ partition. true) info list files rows → IsStrictlySortedBy found_cmp (content_of writes) → rows ≡ content_of writes
   unfolding content_of
   rows-content rows is up = same-rising found_cmp found_total rows (sorted_by found_cmp (filter Kept (flat_map inserts_of writes))) is.rows_are.up up to from
     where
@@ -158,12 +163,12 @@ module _ (info : TableInfo) (list : WriteIds) (files : Tree) (writes : List Writ
       same : (found : Found) → is_gone is.gone (at_of found) ≡ is_deleted writes found
       same found =
           ap (λ (gone : List RowAt). is_gone gone (at_of found)) is.deletes.items_are
-          ∙ gone-same is.named is.listed is.deletes.sheets is.deletes.files_are is.deletes.each found
+          ∙ gone-same is.named is.listed is.deletes.sheets (is.deletes.files_are ∙ wanted-all (files_taken true list is.named)) is.deletes.each found
 
       left-to : (found : Found) → In found (left_of is.gone is.inserted) → In found (sorted_by found_cmp (filter Kept (flat_map inserts_of writes)))
       left-to found h =
           let kept = kept-in (Left is.gone) found is.inserted h in
-          let at = inserted-in is.named is.listed is.inserts.sheets is.inserts.files_are is.inserts.each found (subst (In found) inserted_is kept.0) in
+          let at = inserted-in is.named is.listed is.inserts.sheets (is.inserts.files_are ∙ wanted-all (files_taken false list is.named)) is.inserts.each found (subst (In found) inserted_is kept.0) in
           in-sorted found_cmp found (filter Kept (flat_map inserts_of writes))
           (in-kept Kept found (flat_map inserts_of writes) (in-flat inserts_of found at.0 writes at.1 at.2) (ap not (sym (same found)) ∙ kept.1))
 
@@ -172,7 +177,7 @@ module _ (info : TableInfo) (list : WriteIds) (files : Tree) (writes : List Writ
           let kept = kept-in Kept found (flat_map inserts_of writes) (sorted-in found_cmp found (filter Kept (flat_map inserts_of writes)) h) in
           let at = flat-in inserts_of found writes kept.0 in
           in-kept (Left is.gone) found is.inserted
-          (subst (In found) (sym inserted_is) (in-inserted is.named is.listed is.inserts.sheets is.inserts.files_are is.inserts.each found at.0 at.1 at.2)) (ap not (same found) ∙ kept.1)
+          (subst (In found) (sym inserted_is) (in-inserted is.named is.listed is.inserts.sheets (is.inserts.files_are ∙ wanted-all (files_taken false list is.named)) is.inserts.each found at.0 at.1 at.2)) (ap not (same found) ∙ kept.1)
 
       to : (found : Found) → In found rows → In found (sorted_by found_cmp (filter Kept (flat_map inserts_of writes)))
       to found h = left-to found (is.rows_are.among found h)

@@ -19,7 +19,7 @@ use Rattle.hv_route.proofs.BackLemmas.{text-says}
 use Rattle.hv_rowfile.specs.declared.record.Rec.{Rec}
 use Rattle.hv_rowfile.specs.Layout.{IsFile, file_spelling}
 use Rattle.hv_rowfile.proofs.Books.{file_one}
-use Rattle.hv_history.specs.declared.state.Written.{Written}
+use Rattle.hv_stands.specs.hv_history.specs.declared.state.Written.{Written}
 use Rattle.hv_stands.specs.Files.{records_of, file_of, CanStand, HasRecords, own_dir, own_place, IsSaid}
 use Rattle.hv_stands.specs.Sound.{HasOther, AreApart}
 use Rattle.hv_shelf.specs.declared.place.Place.{Place}

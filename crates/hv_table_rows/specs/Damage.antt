@@ -4,7 +4,7 @@ use Rattle.std.specs.FinMap as tree
 use Rattle.hv_shelf.specs.declared.place.Place.{Place}
 use Rattle.hv_shelf.specs.Disk.{Tree, places_of}
 use Rattle.hv_logic.specs.declared.catalog.TableInfo.{TableInfo}
-use Rattle.hv_history.specs.declared.entry.FilePlace.{FilePlace}
+use Rattle.hv_stands.specs.hv_history.specs.declared.entry.FilePlace.{FilePlace}
 use Rattle.hv_wids.specs.WriteIds.{WriteIds}
 use Rattle.hv_choosing.specs.declared.dir.Span.{Span}
 use Rattle.hv_choosing.specs.declared.listing.DirFile.{DirFile}

@@ -114,15 +114,22 @@ pub record AreOnce {X : Type 0} (cmp : X → X → Ordering) (items once : List 
   pub among : (x : X) → IsIn x once → IsIn x items
   pub every : (x : X) → IsIn x items → (y : X) × IsIn y once × (is_eq (cmp x y) ≡ true)
 
--- The rows of a table under a list of write ids, by the files that are chosen in each of its partitions. A row that stands in several
--- files comes once.
-pub record AreRows (info : TableInfo) (list : WriteIds) (files : Tree) (rows : List Found) : Type 0 where
+-- those of the files that stand in a partition that is wanted
+abbrev pub is_file_wanted : (List ℕ → Bool) → DirFile → Bool
+is_file_wanted wants file = wants file.place.partition
+
+abbrev pub files_wanted : (List ℕ → Bool) → List DirFile → List DirFile
+files_wanted wants files = filter (is_file_wanted wants) files
+
+-- The rows of a table's partitions that are wanted, under a list of write ids, by the files that are chosen in each of them. A row that
+-- stands in several files comes once.
+pub record AreRows (wants : List ℕ → Bool) (info : TableInfo) (list : WriteIds) (files : Tree) (rows : List Found) : Type 0 where
   pub named : List DirFile
   pub listed : AreListed (places_of info.table files) named
   pub gone : List RowAt
   pub inserted : List Found
-  pub deletes : Reads true files (files_taken true list named) (deleted_in list) gone
-  pub inserts : Reads false files (files_taken false list named) (founds_in list info.shape) inserted
+  pub deletes : Reads true files (files_wanted wants (files_taken true list named)) (deleted_in list) gone
+  pub inserts : Reads false files (files_wanted wants (files_taken false list named)) (founds_in list info.shape) inserted
   pub rows_are : AreOnce found_cmp (left_of gone inserted) rows
 
 -- one of these files doesn't stand

@@ -1,16 +1,19 @@
 -- The place that a job's note has is that of its Asked, which has the job's partition.
-use Rattle.std.proofs.Common.{◌≡◌, ℕ, zero, suc, ◌<◌, Bool, true, false, Some, List, [], ◌∷◌, ◌++◌, length, map, filter, fold, refl, sym, ap, ◌∙◌, subst, arith}
-use Rattle.std.specs.Prelude.{if◌then◌else◌, ◌&&◌, ◌==◌, option_and_then}
-use Rattle.std.specs.List.{AllByRecursion}
+use Rattle.std.proofs.Common.{◌≡◌, ℕ, zero, suc, ◌<◌, Bool, true, false, Option, Some, None, List, [], ◌∷◌, ◌++◌, length, map, filter, fold, refl, sym, ap, ◌∙◌, subst, arith}
+use Rattle.std.specs.Prelude.{if◌then◌else◌, ◌&&◌, ◌||◌, ◌==◌, is_none, option_and_then}
+use Rattle.std.specs.List.{AllByRecursion, list_any}
 use Rattle.std.proofs.lemmas.List.{append_assoc, append-nil, length-append}
-use Rattle.hv_history.specs.declared.entry.Entry.{Entry}
-use Rattle.hv_history.specs.declared.entry.Entry.TheVariants as entry
-use Rattle.hv_history.specs.State.{State, Job, changed, changed_at, asked_job, picked, published_at, empty_at, failed_at, cleaned, acted, after, nothing_yet, state_of}
-use Rattle.hv_history.specs.Jobs.{is_job_of}
-use Rattle.hv_book.specs.Briefs.{brief_job}
-use Rattle.hv_book.proofs.IdLaws.{all-more, all-append}
-use Rattle.hv_book.proofs.TextLaws.{get-front, get-last}
-use Rattle.hv_tallies.specs.Jobs.{asked_in, asked_at, is_asked_for, is_asked_of, notes_in}
+use Rattle.hv_jobs.specs.hv_history.specs.declared.entry.Entry.{Entry}
+use Rattle.hv_jobs.specs.hv_history.specs.declared.entry.Entry.TheVariants as entry
+use Rattle.hv_jobs.specs.hv_history.specs.State.{State, Job, changed, changed_at, asked_job, picked, published_at, empty_at, failed_at, cleaned, acted, after, nothing_yet, state_of}
+use Rattle.hv_jobs.specs.hv_history.specs.declared.entry.JobKind.{JobKind}
+use Rattle.hv_jobs.specs.hv_history.specs.Thresholds.{is_behind_place}
+use Rattle.hv_jobs.specs.hv_history.specs.Jobs.{is_job_of, mark_by}
+use Rattle.hv_jobs.specs.hv_history.specs.JobsTrue.{is_busy_behind, was_busy}
+use Rattle.hv_earlier.specs.hv_meta.specs.hv_book.specs.Briefs.{brief_job}
+use Rattle.hv_earlier.specs.hv_meta.specs.hv_book.proofs.IdLaws.{all-more, all-append}
+use Rattle.hv_earlier.specs.hv_meta.specs.hv_book.proofs.TextLaws.{get-front, get-last}
+use Rattle.hv_tallies.specs.Jobs.{asked_in, asked_at, is_asked_for, is_asked_of, notes_in, ended_behind, or_busy}
 
 pub record IsAskedThere (entries : List Entry) (job : Job) : Type 0 where
   pub within : job.asked < length entries
@@ -108,3 +111,31 @@ notes-of entries table partition (job ∷ jobs) all =
 pub notes-are : (entries : List Entry) (table : ℕ) (partition : List ℕ)
     → notes_in entries table partition ≡ map brief_job (filter (is_job_of table partition) (state_of entries).jobs)
 notes-are entries table partition = notes-of entries table partition (state_of entries).jobs (all-asked entries)
+
+-- ---- and whether one was busy behind a place is read off them
+
+busy-one : (place : ℕ) (ended : Option ℕ) → ended_behind place ended ≡ (is_none ended || is_behind_place (Some place) (mark_by ended))
+busy-one place None = refl
+busy-one place (Some end) = refl
+
+or-more : (a b c : Bool) → ((a || b) || c) ≡ (a || (b || c))
+or-more true b c = refl
+or-more false b c = refl
+
+or-none : (a : Bool) → a ≡ (a || false)
+or-none true = refl
+or-none false = refl
+
+busy-all : (place : ℕ) (before : Bool) (jobs : List Job) → fold (or_busy place) before (map brief_job jobs) ≡ (before || list_any (is_busy_behind place) jobs)
+busy-all place before [] = or-none before
+busy-all place before (job ∷ jobs) =
+    ap (λ (b : Bool). fold (or_busy place) (before || b) (map brief_job jobs)) (busy-one place job.ended)
+    ∙ busy-all place (before || is_busy_behind place job) jobs
+    ∙ or-more before (is_busy_behind place job) (list_any (is_busy_behind place) jobs)
+
+pub busy-is : (entries : List Entry) (table : ℕ) (partition : List ℕ) (place : ℕ) (kind : JobKind)
+    → fold (or_busy place) false (notes_in entries table partition)
+    ≡ was_busy (state_of entries) place (record { table = table; partition = partition; kind = kind })
+busy-is entries table partition place kind =
+    ap (fold (or_busy place) false) (notes-are entries table partition)
+    ∙ busy-all place false (filter (is_job_of table partition) (state_of entries).jobs)

@@ -8,21 +8,21 @@ use Rattle.std.proofs.lemmas.List.{append-nil}
 use Rattle.std.proofs.lemmas.Result.{on_ok_weaker}
 use Rattle.hv_base.specs.declared.ids.Touch.{Touch}
 use Rattle.hv_dirs.specs.declared.names.DirName.{DirName}
-use Rattle.hv_history.specs.declared.entry.Entry.{Entry}
-use Rattle.hv_history.specs.declared.entry.JobKind.{JobKind}
-use Rattle.hv_history.specs.declared.entry.JobKind.TheVariants as kind
-use Rattle.hv_history.specs.State.{State, Job, numbered, state_of}
-use Rattle.hv_history.specs.Jobs.{Events, inserts, deletes, is_up_to, is_between, is_job_of, events_of, events_if, events_at, events_from, events_in, ids_of}
+use Rattle.hv_jobs.specs.hv_history.specs.declared.entry.Entry.{Entry}
+use Rattle.hv_jobs.specs.hv_history.specs.declared.entry.JobKind.{JobKind}
+use Rattle.hv_jobs.specs.hv_history.specs.declared.entry.JobKind.TheVariants as kind
+use Rattle.hv_jobs.specs.hv_history.specs.State.{State, Job, numbered, state_of}
+use Rattle.hv_jobs.specs.hv_history.specs.Jobs.{Events, inserts, deletes, is_up_to, is_between, is_job_of, events_of, events_if, events_at, events_from, events_in, ids_of}
 use Rattle.hv_ids.specs.declared.notes.IdNote.{IdNote}
 use Rattle.hv_ids.specs.declared.notes.PlacedId.{PlacedId}
 use Rattle.hv_ids.specs.Ids.{table_of, is_in}
 use Rattle.hv_links.specs.Links.{last_of, before_of}
-use Rattle.hv_book.specs.declared.jobs.JobNote.{JobNote}
-use Rattle.hv_book.specs.declared.jobs.JobRange.{JobRange}
-use Rattle.hv_book.specs.Briefs.{brief_job, brief_range}
-use Rattle.hv_book.specs.Commits.{wrote_in}
-use Rattle.hv_book.specs.Past.{Past, total, total_from, only_if, weight_in, ended_weight, owners_in}
-use Rattle.hv_book.proofs.IdLaws.{total-append}
+use Rattle.hv_earlier.specs.hv_meta.specs.hv_book.specs.declared.jobs.JobNote.{JobNote}
+use Rattle.hv_earlier.specs.hv_meta.specs.hv_book.specs.declared.jobs.JobRange.{JobRange}
+use Rattle.hv_earlier.specs.hv_meta.specs.hv_book.specs.Briefs.{brief_job, brief_range}
+use Rattle.hv_earlier.specs.hv_meta.specs.hv_book.specs.Commits.{wrote_in}
+use Rattle.hv_earlier.specs.hv_meta.specs.hv_book.specs.Past.{Past, total, total_from, only_if, weight_in, ended_weight, owners_in}
+use Rattle.hv_earlier.specs.hv_meta.specs.hv_book.proofs.IdLaws.{total-append}
 use Rattle.hv_earlier.proofs.WalkLaws.{walk-start, walk-step}
 use Rattle.hv_jobs.specs.Covered.{own, wide, base, has_within, covered_if, own_covered, published_covered, made_covered, covered_names}
 use Rattle.hv_tallies.specs.declared.tally.Tally.{Tally}

@@ -5,16 +5,16 @@ use Rattle.std.specs.Prelude.{if◌then◌else◌, find}
 use Rattle.std.proofs.lemmas.List.{length-append}
 use Rattle.std.proofs.lemmas.List.Sums.{fold-append}
 use Rattle.hv_base.specs.declared.ids.Touch.{Touch}
-use Rattle.hv_history.specs.declared.state.Table.{Table}
-use Rattle.hv_history.specs.declared.state.Ending.{Ending}
-use Rattle.hv_history.specs.declared.state.Ending.TheVariants.{Committed, Aborted, Made, Dropped}
-use Rattle.hv_history.specs.declared.state.Transaction.{Transaction}
-use Rattle.hv_history.specs.State.{State, numbered}
-use Rattle.hv_history.specs.Jobs.{Events, is_touch_of, is_open_one, events_if, events_by, events_at, events_from, events_in, ids_of, is_up_to}
+use Rattle.hv_jobs.specs.hv_history.specs.declared.state.Table.{Table}
+use Rattle.hv_jobs.specs.hv_history.specs.declared.state.Ending.{Ending}
+use Rattle.hv_jobs.specs.hv_history.specs.declared.state.Ending.TheVariants.{Committed, Aborted, Made, Dropped}
+use Rattle.hv_jobs.specs.hv_history.specs.declared.state.Transaction.{Transaction}
+use Rattle.hv_jobs.specs.hv_history.specs.State.{State, numbered}
+use Rattle.hv_jobs.specs.hv_history.specs.Jobs.{Events, is_touch_of, is_open_one, events_if, events_by, events_at, events_from, events_in, ids_of, is_up_to}
 use Rattle.hv_ids.specs.declared.notes.IdNote.{IdNote}
-use Rattle.hv_book.specs.Commits.{wrote_by, wrote_in}
-use Rattle.hv_book.specs.Past.{owners_in, total, total_from}
-use Rattle.hv_book.proofs.IdLaws.{total-append}
+use Rattle.hv_earlier.specs.hv_meta.specs.hv_book.specs.Commits.{wrote_by, wrote_in}
+use Rattle.hv_earlier.specs.hv_meta.specs.hv_book.specs.Past.{owners_in, total, total_from}
+use Rattle.hv_earlier.specs.hv_meta.specs.hv_book.proofs.IdLaws.{total-append}
 use Rattle.hv_tallies.specs.declared.tally.Reach.{Reach}
 use Rattle.hv_tallies.specs.declared.tally.Tally.{Tally}
 use Rattle.hv_tallies.specs.Tallies.{least, noted_open, counted, tallied, touch_in, visited}

@@ -3,15 +3,15 @@ use Rattle.std.proofs.Common.{◌≡◌, ℕ, Option, Some, None, List, map, ref
 use Rattle.std.specs.Prelude.{is_none}
 use Rattle.std.specs.Option.{option_map}
 use Rattle.hv_dirs.specs.declared.names.DirName.{DirName}
-use Rattle.hv_history.specs.declared.entry.JobKind.{JobKind}
-use Rattle.hv_history.specs.declared.state.Transaction.{Transaction}
-use Rattle.hv_history.specs.State.{Job, numbered}
-use Rattle.hv_history.specs.Jobs.{is_open_one}
+use Rattle.hv_jobs.specs.hv_history.specs.declared.entry.JobKind.{JobKind}
+use Rattle.hv_jobs.specs.hv_history.specs.declared.state.Transaction.{Transaction}
+use Rattle.hv_jobs.specs.hv_history.specs.State.{Job, numbered}
+use Rattle.hv_jobs.specs.hv_history.specs.Jobs.{is_open_one}
 use Rattle.hv_jobs.specs.Covers.{covers, covers_by}
-use Rattle.hv_book.specs.declared.jobs.JobNote.{JobNote}
-use Rattle.hv_book.specs.Notes.{is_open_note}
-use Rattle.hv_book.specs.Briefs.{brief, brief_range, brief_job, end_of}
-use Rattle.hv_book.proofs.TextLaws.{numbered-map}
+use Rattle.hv_earlier.specs.hv_meta.specs.hv_book.specs.declared.jobs.JobNote.{JobNote}
+use Rattle.hv_earlier.specs.hv_meta.specs.hv_book.specs.Notes.{is_open_note}
+use Rattle.hv_earlier.specs.hv_meta.specs.hv_book.specs.Briefs.{brief, brief_range, brief_job, end_of}
+use Rattle.hv_earlier.specs.hv_meta.specs.hv_book.proofs.TextLaws.{numbered-map}
 use Rattle.hv_tallies.specs.Covered.{covers_if, covers_note}
 
 none-mapped : {A B : Type 0} (f : A → B) (o : Option A) → is_none (option_map f o) ≡ is_none o

@@ -4,9 +4,9 @@ use Rattle.std.proofs.Common.{◌≡◌, ℕ, ◌+◌, ◌≤◌, Bool, true, fa
 use Rattle.std.specs.Prelude.{if◌then◌else◌, ◌&&◌, ◌||◌, nat_lt, nat_le}
 use Rattle.std.specs.List.{list_any}
 use Rattle.std.proofs.lemmas.Bool.{lt-ltb, ltb-true, ltb-false, le-leb, leb-true, le-ltb}
-use Rattle.hv_history.specs.Legal.{one_if}
-use Rattle.hv_history.specs.Jobs.{Events, larger, greatest, write_of, is_up_to, is_above, is_between, count_if}
-use Rattle.hv_book.specs.Past.{total}
+use Rattle.hv_jobs.specs.hv_history.specs.Legal.{one_if}
+use Rattle.hv_jobs.specs.hv_history.specs.Jobs.{Events, larger, greatest, write_of, is_up_to, is_above, is_between, count_if}
+use Rattle.hv_earlier.specs.hv_meta.specs.hv_book.specs.Past.{total}
 use Rattle.hv_tallies.specs.declared.tally.Reach.{Reach}
 use Rattle.hv_tallies.specs.Tallies.{least, one_more, first_if}
 use Rattle.hv_tallies.proofs.EventLemmas.{stepped}

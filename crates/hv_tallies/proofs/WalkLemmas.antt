@@ -4,14 +4,14 @@ use Rattle.std.specs.Prelude.{◌==◌, if◌then◌else◌}
 use Rattle.std.specs.List.{slice_get}
 use Rattle.std.proofs.lemmas.Bool.{eq-eqb, ne_eqb}
 use Rattle.std.proofs.lemmas.List.Sums.{fold-append}
-use Rattle.hv_history.specs.declared.entry.Entry.{Entry}
-use Rattle.hv_history.specs.State.{state_of}
+use Rattle.hv_jobs.specs.hv_history.specs.declared.entry.Entry.{Entry}
+use Rattle.hv_jobs.specs.hv_history.specs.State.{state_of}
 use Rattle.hv_ids.specs.declared.notes.IdNote.{IdNote}
 use Rattle.hv_ids.specs.declared.notes.PlacedId.{PlacedId}
 use Rattle.hv_ids.specs.Ids.{table_of, is_in}
 use Rattle.hv_links.specs.Links.{last_of, before_of}
-use Rattle.hv_book.specs.Past.{Past, IsPast, total, only_if, weight_in, ended_weight}
-use Rattle.hv_book.proofs.IdLaws.{total-append}
+use Rattle.hv_earlier.specs.hv_meta.specs.hv_book.specs.Past.{Past, IsPast, total, only_if, weight_in, ended_weight}
+use Rattle.hv_earlier.specs.hv_meta.specs.hv_book.proofs.IdLaws.{total-append}
 use Rattle.hv_earlier.proofs.WalkLaws.{IsStop, stop-start, stop-step, walk-start, walk-step}
 use Rattle.hv_tallies.specs.declared.tally.Tally.{Tally}
 use Rattle.hv_tallies.specs.declared.tally.Reach.{Reach}

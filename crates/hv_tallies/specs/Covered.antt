@@ -3,17 +3,17 @@ use Rattle.std.specs.Prelude.{if◌then◌else◌, ℕ, ◌-◌, ◌&&◌, Bool,
 use Rattle.std.specs.List.{flat_map}
 use Rattle.hv_base.specs.declared.ids.Touch.{Touch}
 use Rattle.hv_dirs.specs.declared.names.DirName.{DirName}
-use Rattle.hv_history.specs.declared.entry.Entry.{Entry}
-use Rattle.hv_history.specs.declared.entry.JobKind.{JobKind}
-use Rattle.hv_history.specs.declared.entry.JobKind.TheVariants as kind
-use Rattle.hv_history.specs.State.{State, state_of, numbered}
-use Rattle.hv_history.specs.Jobs.{Events, inserts, deletes, events_of, events_in}
+use Rattle.hv_jobs.specs.hv_history.specs.declared.entry.Entry.{Entry}
+use Rattle.hv_jobs.specs.hv_history.specs.declared.entry.JobKind.{JobKind}
+use Rattle.hv_jobs.specs.hv_history.specs.declared.entry.JobKind.TheVariants as kind
+use Rattle.hv_jobs.specs.hv_history.specs.State.{State, state_of, numbered}
+use Rattle.hv_jobs.specs.hv_history.specs.Jobs.{Events, inserts, deletes, events_of, events_in}
 use Rattle.hv_ids.specs.declared.notes.IdNote.{IdNote}
-use Rattle.hv_book.specs.declared.jobs.JobNote.{JobNote}
-use Rattle.hv_book.specs.declared.jobs.JobRange.{JobRange}
-use Rattle.hv_book.specs.Briefs.{brief_job}
-use Rattle.hv_book.specs.Commits.{wrote_in}
-use Rattle.hv_book.specs.Past.{total}
+use Rattle.hv_earlier.specs.hv_meta.specs.hv_book.specs.declared.jobs.JobNote.{JobNote}
+use Rattle.hv_earlier.specs.hv_meta.specs.hv_book.specs.declared.jobs.JobRange.{JobRange}
+use Rattle.hv_earlier.specs.hv_meta.specs.hv_book.specs.Briefs.{brief_job}
+use Rattle.hv_earlier.specs.hv_meta.specs.hv_book.specs.Commits.{wrote_in}
+use Rattle.hv_earlier.specs.hv_meta.specs.hv_book.specs.Past.{total}
 use Rattle.hv_jobs.specs.Covers.{covers_range}
 use Rattle.hv_jobs.specs.Covered.{own, wide, base, has_within}
 use Rattle.hv_tallies.specs.declared.tally.Reach.{Reach}

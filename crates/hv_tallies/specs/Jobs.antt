@@ -1,16 +1,16 @@
 -- What the jobs of a partition come to, by the notes that are kept of them beside a book.
 use Rattle.std.specs.Prelude.{if◌then◌else◌, ℕ, ◌==◌, ◌&&◌, ◌||◌, nat_eq, nat_lt, Bool, true, false, is_none, Option, Some, None, List, filter, map, option_and_then, slice_get}
 use Rattle.std.specs.Cmp.Lexicographic.{pointwise}
-use Rattle.hv_history.specs.declared.entry.Entry.{Entry}
-use Rattle.hv_history.specs.declared.entry.Entry.TheVariants as entry
-use Rattle.hv_history.specs.declared.entry.JobKind.{JobKind}
-use Rattle.hv_history.specs.declared.entry.JobKind.TheVariants as kind
-use Rattle.hv_history.specs.State.{state_of}
-use Rattle.hv_history.specs.Jobs.{larger}
-use Rattle.hv_book.specs.declared.jobs.JobNote.{JobNote}
-use Rattle.hv_book.specs.declared.jobs.JobRange.{JobRange}
-use Rattle.hv_book.specs.Jobs.{is_working_note}
-use Rattle.hv_book.specs.Briefs.{brief_job}
+use Rattle.hv_jobs.specs.hv_history.specs.declared.entry.Entry.{Entry}
+use Rattle.hv_jobs.specs.hv_history.specs.declared.entry.Entry.TheVariants as entry
+use Rattle.hv_jobs.specs.hv_history.specs.declared.entry.JobKind.{JobKind}
+use Rattle.hv_jobs.specs.hv_history.specs.declared.entry.JobKind.TheVariants as kind
+use Rattle.hv_jobs.specs.hv_history.specs.State.{state_of}
+use Rattle.hv_jobs.specs.hv_history.specs.Jobs.{larger}
+use Rattle.hv_earlier.specs.hv_meta.specs.hv_book.specs.declared.jobs.JobNote.{JobNote}
+use Rattle.hv_earlier.specs.hv_meta.specs.hv_book.specs.declared.jobs.JobRange.{JobRange}
+use Rattle.hv_earlier.specs.hv_meta.specs.hv_book.specs.Jobs.{is_working_note}
+use Rattle.hv_earlier.specs.hv_meta.specs.hv_book.specs.Briefs.{brief_job}
 use Rattle.hv_tallies.specs.declared.survey.Survey.{Survey}
 
 -- ---- the jobs of a partition: a note has the place of the job's Asked, which has the partition
@@ -68,3 +68,12 @@ low_by_range base low (Some range) = if nat_lt base range.high then Some range.l
 -- where the last minor one begins whose end is above the base
 abbrev pub low_of : ℕ → Option ℕ → JobNote → Option ℕ
 low_of base low note = if is_major note.kind then low else low_by_range base low note.published
+
+-- ---- whether one was initiated or working behind a place
+
+abbrev pub ended_behind : ℕ → Option ℕ → Bool
+ended_behind place None = true
+ended_behind place (Some end) = nat_lt place end
+
+abbrev pub or_busy : ℕ → Bool → JobNote → Bool
+or_busy place before note = before || ended_behind place note.ended

@@ -1,8 +1,8 @@
 -- What a walk over the write ids of a table counts, whatever order it goes in. Numbers stop at the greatest one that there is room for.
 use Rattle.std.specs.Prelude.{if◌then◌else◌, ℕ, ◌+◌, ◌-◌, ◌^◌, ◌&&◌, ◌||◌, nat_lt, nat_le, Bool, false, Option, Some, None, List, find, fold}
 use Rattle.hv_base.specs.declared.ids.Touch.{Touch}
-use Rattle.hv_history.specs.State.{State, numbered}
-use Rattle.hv_history.specs.Jobs.{Events, is_touch_of, larger, is_open_one, events_at, inserts, deletes, is_above, is_between, is_up_to}
+use Rattle.hv_jobs.specs.hv_history.specs.State.{State, numbered}
+use Rattle.hv_jobs.specs.hv_history.specs.Jobs.{Events, is_touch_of, larger, is_open_one, events_at, inserts, deletes, is_above, is_between, is_up_to}
 use Rattle.hv_ids.specs.declared.notes.IdNote.{IdNote}
 use Rattle.hv_tallies.specs.declared.tally.Reach.{Reach}
 use Rattle.hv_tallies.specs.declared.tally.Tally.{Tally}

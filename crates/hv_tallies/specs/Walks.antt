@@ -1,9 +1,9 @@
 -- Walks over the write ids of a table: each is counted once, in some order.
 use Rattle.std.specs.Prelude.{◌≡◌, ℕ, List, fold}
-use Rattle.hv_history.specs.State.{State, numbered}
+use Rattle.hv_jobs.specs.hv_history.specs.State.{State, numbered}
 use Rattle.hv_ids.specs.declared.notes.IdNote.{IdNote}
 use Rattle.hv_ids.specs.declared.notes.PlacedId.{PlacedId}
-use Rattle.hv_book.specs.Past.{owners_in, total, total_from, ended_weight}
+use Rattle.hv_earlier.specs.hv_meta.specs.hv_book.specs.Past.{owners_in, total, total_from, ended_weight}
 use Rattle.hv_tallies.specs.declared.tally.Reach.{Reach}
 use Rattle.hv_tallies.specs.declared.tally.Tally.{Tally}
 use Rattle.hv_tallies.specs.Tallies.{no_tally, visited}

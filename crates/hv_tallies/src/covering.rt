@@ -1,10 +1,10 @@
 //! The directories that a job covers, one by one.
 ghost use Rattle.std.specs.Prelude.{◌≡◌, ℕ, ◌+◌, ◌++◌, ◌&&◌, true, false, Some, IfOk, OnOk};
 ghost use Rattle.std.specs.List.{flat_map};
-ghost use Rattle.hv_history.specs.State.{state_of, Job, numbered};
-ghost use Rattle.hv_history.specs.Jobs.{events_of, events_in};
-ghost use Rattle.hv_book.specs.Briefs.{brief_job};
-ghost use Rattle.hv_book.specs.Past.{total, ended_weight};
+ghost use Rattle.hv_jobs.specs.hv_history.specs.State.{state_of, Job, numbered};
+ghost use Rattle.hv_jobs.specs.hv_history.specs.Jobs.{events_of, events_in};
+ghost use Rattle.hv_earlier.specs.hv_meta.specs.hv_book.specs.Briefs.{brief_job};
+ghost use Rattle.hv_earlier.specs.hv_meta.specs.hv_book.specs.Past.{total, ended_weight};
 ghost use Rattle.hv_jobs.specs.Covered.{has_within, covered_names};
 ghost use Rattle.hv_tallies.specs.Covered.{covers_note};
 ghost use Rattle.hv_tallies.specs.Covered.{kept_if, own_kept, names_at, names_weight, reach_within, wide_kept, range_kept, made_kept, kept_names};
@@ -15,10 +15,10 @@ use crate::survey::{asked_at, is_asked_of};
 use crate::tally::{Reach, both};
 use crate::walking::walk;
 use hv_base::{JobId, NoMemory, Text, Touch, WriteId};
-use hv_book::{Book, JobNote, JobRange};
 use hv_dirs::DirName;
-use hv_history::{JobKind, numbered};
+use hv_earlier::hv_meta::hv_book::{Book, JobNote, JobRange};
 use hv_ids::{IdNote, PlacedIds};
+use hv_jobs::hv_history::{JobKind, numbered};
 use std::alloc::Global;
 
 /// Whether a directory was made and the job covers it.

@@ -1,13 +1,13 @@
 ghost use Rattle.std.specs.Prelude.{◌≡◌, Some};
-ghost use Rattle.hv_history.specs.State.{state_of, Job, numbered};
+ghost use Rattle.hv_jobs.specs.hv_history.specs.State.{state_of, Job, numbered};
 ghost use Rattle.hv_jobs.specs.Covers.{covers};
 ghost use Rattle.hv_tallies.specs.Covered.{covers_note, covers_by_range};
 
 use crate::tally::both;
 use hv_base::JobId;
-use hv_book::{Book, JobNote, JobRange};
 use hv_dirs::DirName;
-use hv_history::{JobKind, numbered};
+use hv_earlier::hv_meta::hv_book::{Book, JobNote, JobRange};
+use hv_jobs::hv_history::{JobKind, numbered};
 
 /// Whether a minor compaction of these write ids covers the directory.
 fn covers_minor(range: JobRange, name: &DirName) -> bool

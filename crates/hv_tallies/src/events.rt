@@ -1,15 +1,15 @@
 ghost use Rattle.std.specs.Prelude.{◌≡◌, find};
 ghost use Rattle.std.specs.Option.{option_copied};
-ghost use Rattle.hv_history.specs.State.{state_of, numbered};
-ghost use Rattle.hv_book.specs.Commits.{wrote_in};
-ghost use Rattle.hv_history.specs.Jobs.{is_touch_of, events_of};
+ghost use Rattle.hv_jobs.specs.hv_history.specs.State.{state_of, numbered};
+ghost use Rattle.hv_earlier.specs.hv_meta.specs.hv_book.specs.Commits.{wrote_in};
+ghost use Rattle.hv_jobs.specs.hv_history.specs.Jobs.{is_touch_of, events_of};
 ghost use Rattle.hv_tallies.specs.Tallies.{counted, tallied, touch_in, visited};
 
 use crate::open_ids::is_open;
 use crate::rows::{more_both, more_if};
 use crate::tally::{Reach, Tally, both, either, first_if, larger, noted_open, one_more};
 use hv_base::Touch;
-use hv_book::Book;
+use hv_earlier::hv_meta::hv_book::Book;
 use hv_ids::IdNote;
 
 fn is_touch_of(touch: &Touch, table: u64, partition: &str) -> bool

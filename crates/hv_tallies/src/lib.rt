@@ -1,6 +1,8 @@
 //! What the write ids of a table and the jobs of a partition come to over a book, and which directories a job covers.
 #![tactic(auto)]
 
+pub use hv_earlier;
+
 mod covering;
 mod covers;
 mod events;
@@ -12,6 +14,6 @@ mod walking;
 
 pub use covering::{Within, covered, found_within};
 pub use covers::may_go;
-pub use survey::{Survey, asked_at, minor_low, survey_in};
+pub use survey::{Survey, asked_at, is_asked_of, minor_low, survey_in, was_busy};
 pub use tally::{Reach, Tally, both, either, one_more};
 pub use walking::walk;

@@ -1,11 +1,14 @@
-ghost use Rattle.std.specs.Prelude.{◌≡◌, None, filter, fold};
+ghost use Rattle.std.specs.Prelude.{◌≡◌, None, false, filter, fold};
 ghost use Rattle.std.specs.Option.{option_copied};
-ghost use Rattle.hv_tallies.specs.Jobs.{is_major, range_high, is_busy_note, asked_at, is_asked_for, is_asked_of, no_survey, larger_if, surveyed, low_of, notes_in};
+ghost use Rattle.hv_jobs.specs.hv_history.specs.declared.entry.JobKind.{JobKind as KindOf};
+ghost use Rattle.hv_jobs.specs.hv_history.specs.State.{state_of};
+ghost use Rattle.hv_jobs.specs.hv_history.specs.JobsTrue.{was_busy};
+ghost use Rattle.hv_tallies.specs.Jobs.{ended_behind, or_busy, is_major, range_high, is_busy_note, asked_at, is_asked_for, is_asked_of, no_survey, larger_if, surveyed, low_of, notes_in};
 
 use crate::tally::{both, either, larger};
 use hv_base::Text;
-use hv_book::{Book, JobNote, JobRange};
-use hv_history::{Entry, JobKind};
+use hv_earlier::hv_meta::hv_book::{Book, JobNote, JobRange};
+use hv_jobs::hv_history::{Entry, JobKind};
 
 /// What the jobs of a partition come to: whether one is initiated or working, the greatest end of a major one
 /// and of any, and the last one.
@@ -118,6 +121,44 @@ pub fn survey_in(book: &Book, table: u64, partition: &Text) -> Survey
     ensures { result ≡ fold surveyed no_survey (notes_in book.now.entries table partition.now) }
 {
     survey_of(book, table, partition, book.jobs())
+}
+
+/// Whether a job that ended at that place, or at none yet, ended behind a place.
+fn ended_behind(place: u64, ended: Option<u64>) -> bool
+    ensures { result ≡ ended_behind place ended }
+{
+    match ended {
+        Some(end) => place < end,
+        None => true,
+    }
+}
+
+fn or_busy(place: u64, before: bool, note: &JobNote) -> bool
+    ensures { result ≡ or_busy place before note.now }
+{
+    either(before, ended_behind(place, note.ended))
+}
+
+/// Whether one of those of these jobs that are of the partition was initiated or working behind a place.
+fn busy_of(book: &Book, table: u64, partition: &Text, place: u64, notes: &[JobNote]) -> bool
+    ensures { result ≡ fold (or_busy place) false
+        (filter (is_asked_of book.now.entries table partition.now) notes.now) }
+{
+    let mut busy = false;
+    for note in notes {
+        if is_asked_of(book, table, partition, note) {
+            busy = or_busy(place, busy, note);
+        }
+    }
+    busy
+}
+
+/// Whether a job of the partition was initiated or working behind a place. It walks the jobs.
+pub fn was_busy(book: &Book, table: u64, partition: &Text, place: u64) -> bool
+    ensures was { (kind : KindOf) → result ≡ was_busy (state_of book.now.entries) place
+        (record { table = table; partition = partition.now; kind = kind }) }
+{
+    busy_of(book, table, partition, place, book.jobs())
 }
 
 fn low_of(base: u64, low: Option<u64>, note: &JobNote) -> Option<u64>

@@ -1,5 +1,5 @@
 ghost use Rattle.std.specs.Prelude.{◌≡◌, ◌&&◌, ◌||◌};
-ghost use Rattle.hv_history.specs.Jobs.{larger};
+ghost use Rattle.hv_jobs.specs.hv_history.specs.Jobs.{larger};
 ghost use Rattle.hv_tallies.specs.Tallies.{no_tally, least, noted_open, one_more, first_if};
 
 /// Up to which write ids a walk counts: the end of the last base, the greatest end of any compaction, and the

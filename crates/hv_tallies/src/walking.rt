@@ -1,11 +1,11 @@
 ghost use Rattle.std.specs.Prelude.{◌≡◌, fold};
-ghost use Rattle.hv_history.specs.State.{state_of};
+ghost use Rattle.hv_jobs.specs.hv_history.specs.State.{state_of};
 ghost use Rattle.hv_tallies.specs.Tallies.{visited};
 ghost use Rattle.hv_tallies.specs.Walks.{HasWalked, IsTally};
 
 use crate::events::visit;
 use crate::tally::{Reach, Tally, no_tally};
-use hv_book::Book;
+use hv_earlier::hv_meta::hv_book::Book;
 use hv_ids::{IdNote, PlacedIds};
 
 fn walk_ids(

@@ -1,28 +1,36 @@
 -- An entry that fits and is true leaves the book legal, its files standing, and what its trail's marks say.
-use Rattle.std.proofs.Common.{◌≡◌, ◌⊎◌, inl, inr, ◌+◌, ◌<◌, None, List, [], ◌∷◌, ◌++◌, length, fold, refl, sym, subst, arith}
+use Rattle.std.proofs.Common.{◌≡◌, ◌⊎◌, inl, inr, ◌+◌, ◌<◌, Some, None, List, [], ◌∷◌, ◌++◌, length, fold, refl, sym, subst, arith}
+use Rattle.hv_base.specs.declared.ids.JobId.{JobId}
 use Rattle.hv_base.specs.declared.ids.TxnId.{TxnId}
 use Rattle.hv_shelf.specs.Disk.{Store}
 use Rattle.hv_dirs.specs.Names.{write_end}
 use Rattle.hv_history.specs.declared.entry.Entry.{Entry}
 use Rattle.hv_history.specs.declared.entry.Entry.TheVariants as entry
-use Rattle.hv_history.specs.State.{State, nothing_yet, after, state_of}
+use Rattle.hv_history.specs.State.{State, Job, nothing_yet, numbered, after, state_of}
 use Rattle.hv_history.specs.Legal.{Fits, IsTruthful, AllTruthful, IsLegal, profile}
-use Rattle.hv_law_made.specs.Standing.{Standing}
+use Rattle.hv_house.specs.hv_finals.specs.hv_law_made.specs.Standing.{Standing}
+use Rattle.hv_house.specs.hv_finals.specs.hv_law_made.specs.Laws.{IsFiledFor}
+use Rattle.hv_house.specs.hv_finals.specs.hv_law_made.proofs.BookLemmas.{books-are-sound}
 use Rattle.hv_stands.specs.Running.{HasPut}
 use Rattle.hv_stands.specs.Statements.{AllFitting}
 use Rattle.hv_stands.proofs.Fitting.{fitting-room, more-fits as fit-next}
-use Rattle.hv_law_filed.proofs.QuietEntries.{quiet-entries-stand, other-entries-stand}
-use Rattle.hv_law_filed.proofs.Commits.{commits-stand}
+use Rattle.hv_law_work.specs.hv_law_marks.specs.hv_law_filed.proofs.QuietEntries.{stands-behind, quiet-entries-stand, other-entries-stand}
+use Rattle.hv_law_work.specs.hv_law_marks.specs.hv_law_filed.proofs.Commits.{commits-stand}
+use Rattle.hv_house.specs.hv_law_read.specs.hv_law_whole.proofs.CoveredLemmas.{covered-are-listed}
 use Rattle.hv_trail.specs.declared.trail.Reader.TheVariants.{Txn}
 use Rattle.hv_trail.specs.declared.trail.TrailItem.{TrailItem}
 use Rattle.hv_trail.specs.declared.trail.TrailItem.TheVariants.{Noted}
 use Rattle.hv_trail.specs.Trail.{book_of, broken}
 use Rattle.hv_trail.specs.Kept.{trail_of}
 use Rattle.hv_trail.proofs.LastingLaws.{book-append}
-use Rattle.hv_law_marks.proofs.Standing.{noted-marks-stand, changes-are-open, marks-give-files}
+use Rattle.hv_law_work.specs.hv_law_marks.proofs.Standing.{noted-marks-stand, changes-are-open, marks-give-files}
+use Rattle.hv_law_work.specs.Laws.{SaysCovered}
+use Rattle.hv_law_work.proofs.Puts.{gone-is-filed}
+use Rattle.hv_law_work.proofs.JobMarks.{noted-job-marks}
 use Rattle.hv_house.specs.declared.house.House.{House}
 use Rattle.hv_house.specs.House.{IsFaithful}
 use Rattle.hv_house.specs.Steps.{IsMarked}
+use Rattle.hv_telling.proofs.Few.{few-entries, is-short}
 use Rattle.hv_telling.specs.Telling.{StandsByMarks, HasNoId, IsPutAsMeant, IsTrueNow}
 
 -- ---- a legal book and one entry more
@@ -46,7 +54,7 @@ true-says book trail (entry.Commit txn wrote) truly = truly.0
 true-says book trail (entry.Create txn table) truly = truly.0
 true-says book trail (entry.Drop txn table) truly = truly.0
 true-says book trail (entry.Published job low high mark) truly = absurd truly
-true-says book trail (entry.Cleaned job) truly = absurd truly
+true-says book trail (entry.Cleaned job) truly = tt
 true-says book trail (entry.Forgot table write) truly = absurd truly
 true-says book trail event truly = truly
 
@@ -79,6 +87,11 @@ module _ (trail : List TrailItem) (store : Store) (fit : AllFitting (book_of tra
       })
       put.encoded put.held
 
+  -- what a job covers is said by commits
+  says-covered : (which : Job) (job : JobId) → numbered (state_of book).jobs job.0 ≡ Some which → SaysCovered (state_of book) which
+  says-covered which job is table table_is name among covered =
+      covered-are-listed book job.0 which table name fit true_.faithful.legal.truthful is table_is among covered
+
   event-stands : (event : Entry) → Fits profile (state_of book) event → IsUnbroken trail event → IsTrueNow book trail event
       → Standing (state_of (book ++ event ∷ [])) store.tree
   event-stands (entry.Commit txn wrote) fits unbroken truly = by truly.1
@@ -102,17 +115,35 @@ module _ (trail : List TrailItem) (store : Store) (fit : AllFitting (book_of tra
       quiet-entries-stand book none.asking txn.0 none.place none.said [] (entry.Drop txn table) store.tree fit fits none.under_way (refl, refl)
       true_.faithful.stands
   event-stands (entry.Published job low high mark) fits unbroken truly = absurd truly
-  event-stands (entry.Cleaned job) fits unbroken truly = absurd truly
+  event-stands (entry.Cleaned job) fits unbroken truly =
+      stands-behind book (entry.Cleaned job) store.tree fit fits
+      (gone-is-filed trail store.tree job truly.which
+      (few-entries book fit)
+      (books-are-sound profile book fit) truly.is truly.live (says-covered truly.which job truly.is) truly.gone true_.faithful.stands true_.jobs)
+      true_.faithful.stands
   event-stands (entry.Forgot table write) fits unbroken truly = absurd truly
   event-stands event fits unbroken truly = other-entries-stand book event store.tree fit fits tt true_.faithful.stands
+
+  -- with an entry behind which the files stand it is so
+  stood-true : (event : Entry) → Fits profile (state_of book) event → IsTruthful (state_of book) event
+      → Standing (state_of (book ++ event ∷ [])) store.tree → StandsByMarks (trail ++ Noted event ∷ []) (book_of (trail ++ Noted event ∷ [])) store
+  stood-true event fits says stands = record {
+    faithful = subst (λ (entries : List Entry). IsFaithful entries store) (sym (book-append trail (Noted event ∷ []))) (record {
+      stands = stands;
+      legal = legal-next book event true_.faithful.legal fits says;
+    });
+    marks = noted-marks-stand profile trail event store.tree fit (near-end book event fit fits) fits true_.faithful.stands true_.marks;
+    jobs = noted-job-marks profile trail event store.tree (is-short trail fit) fits true_.faithful.stands true_.jobs;
+  }
 
   -- it stands behind the entry too
   pub noted-true : (event : Entry) → Fits profile (state_of book) event → IsUnbroken trail event → IsTrueNow book trail event
       → StandsByMarks (trail ++ Noted event ∷ []) (book_of (trail ++ Noted event ∷ [])) store
-  noted-true event fits unbroken truly = record {
-    faithful = subst (λ (entries : List Entry). IsFaithful entries store) (sym (book-append trail (Noted event ∷ []))) (record {
-      stands = event-stands event fits unbroken truly;
-      legal = legal-next book event true_.faithful.legal fits (true-says book trail event truly);
-    });
-    marks = noted-marks-stand profile trail event store.tree fit (near-end book event fit fits) fits true_.faithful.stands true_.marks;
-  }
+  noted-true event fits unbroken truly =
+      stood-true event fits (true-says book trail event truly) (event-stands event fits unbroken truly)
+
+  -- and behind one for which the files are so
+  pub filed-true : (event : Entry) → Fits profile (state_of book) event → IsTruthful (state_of book) event → IsFiledFor event (state_of book) store.tree
+      → StandsByMarks (trail ++ Noted event ∷ []) (book_of (trail ++ Noted event ∷ [])) store
+  filed-true event fits says filed =
+      stood-true event fits says (stands-behind book event store.tree fit fits filed true_.faithful.stands)

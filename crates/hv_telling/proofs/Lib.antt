@@ -1,7 +1,13 @@
+pub mod Few
 pub mod Told
 pub mod Entries
 pub mod Opens
 pub mod Noting
+pub mod Puts
 pub mod Putting
+pub mod Staged
+pub mod Removing
+pub mod Publishing
 pub mod Reading
+pub mod OpenedJobs
 pub mod Opening

@@ -11,16 +11,17 @@ use Rattle.hv_history.specs.declared.entry.Cause.TheVariants.{Lost}
 use Rattle.hv_history.specs.declared.state.Ending.{Ending}
 use Rattle.hv_history.specs.declared.state.Ending.TheVariants.{Aborted}
 use Rattle.hv_history.specs.declared.state.Transaction.{Transaction}
-use Rattle.hv_history.specs.State.{State, nothing_yet, changed, changed_at, unless_ended, while_open, ended, acted, after, state_of}
-use Rattle.hv_history.specs.Legal.{is_open, profile, IsLegal}
+use Rattle.hv_history.specs.State.{State, Job, numbered, nothing_yet, changed, changed_at, unless_ended, while_open, ended, acted, after, state_of}
+use Rattle.hv_history.specs.Legal.{is_open, is_working, profile, IsLegal}
 use Rattle.hv_house.specs.hv_recovery.specs.Recovery.{IsJournalOf}
 use Rattle.hv_stands.proofs.Soundness.{all-numbered, all-more}
 use Rattle.hv_trail.specs.declared.trail.TrailItem.TheVariants.{Noted}
 use Rattle.hv_trail.specs.Trail.{book_of}
-use Rattle.hv_law_made.specs.Opening.{job_ends}
-use Rattle.hv_law_made.specs.Standing.{Standing}
-use Rattle.hv_law_marks.specs.Laws.{AllHaveEnded}
-use Rattle.hv_law_marks.proofs.Standing.{opened-marks-stand}
+use Rattle.hv_house.specs.hv_finals.specs.hv_law_made.specs.Opening.{job_ends}
+use Rattle.hv_house.specs.hv_finals.specs.hv_law_made.specs.Standing.{Standing}
+use Rattle.hv_law_work.specs.hv_law_marks.specs.Laws.{AllHaveEnded}
+use Rattle.hv_law_work.specs.hv_law_marks.proofs.Standing.{opened-marks-stand}
+use Rattle.hv_law_work.proofs.JobMarks.{opened-job-marks}
 use Rattle.hv_house.specs.declared.house.House.{House}
 use Rattle.hv_house.specs.House.{entries_of, IsFaithful}
 use Rattle.hv_house.specs.Booting.{number_next, marked_from, lost_entry, lost_entries, opening_entries, opening_with, OpensTo, OpensWhole, Opens}
@@ -30,6 +31,7 @@ use Rattle.hv_house.specs.hv_recovery.proofs.Books.{is_once as one-journal}
 use Rattle.hv_house.proofs.Openings.{none-of, booted, opened-legal}
 use Rattle.hv_telling.specs.Telling.{IsToldHouse, StandsByMarks, HoldsTrue}
 use Rattle.hv_telling.specs.Laws.{OpenedIsWhole, OpenedIsTold}
+use Rattle.hv_telling.proofs.OpenedJobs.{none-works}
 use Rattle.hv_telling.proofs.Told.{also-some, moved-some, house-book, told-holds}
 
 -- ---- the opening ends each transaction
@@ -107,6 +109,10 @@ all-ended whole book =
 have-ended : (whole : List ℕ) (book : List Entry) → AllHaveEnded (state_of (opening_with whole book))
 have-ended whole book txn t here = all-numbered HasEnded (state_of (opening_with whole book)).transactions txn t here (all-ended whole book)
 
+-- no job is at work
+abbrev NoneWorks : State → Type 0
+NoneWorks state = (number : ℕ) (job : Job) → numbered state.jobs number ≡ Some job → is_working job ≡ true → ⊥
+
 -- ---- a house just opened
 
 module _ {D : Type 0} (told : D → Option Store) (shelf : D) (house : House D) where
@@ -116,6 +122,8 @@ module _ {D : Type 0} (told : D → Option Store) (shelf : D) (house : House D) 
     faithful = faithful;
     marks = opened-marks-stand (entries_of house) store.tree
         (subst (λ (entries : List Entry). AllHaveEnded (state_of entries)) (sym is) (have-ended whole book));
+    jobs = opened-job-marks (entries_of house) store.tree
+        (subst (λ (entries : List Entry). NoneWorks (state_of entries)) (sym is) (λ number job at works. none-works whole book number job at works));
   }
 
   module _ (start : Store) (book : List Entry) (tells : told shelf ≡ Some start) (opens : OpensTo book start) (opened : Opens profile (told shelf) (entries_of house)) where

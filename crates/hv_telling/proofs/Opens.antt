@@ -1,14 +1,12 @@
 -- What a call that stopped leaves opens again.
-use Rattle.std.proofs.Common.{inl, inr, ◌+◌, ◌<◌, ◌≤◌, Option, Some, None, IsSomeAnd, List, [], ◌++◌, refl, sym, subst, append-nil, arith}
+use Rattle.std.proofs.Common.{inl, inr, Option, Some, None, IsSomeAnd, List, [], ◌++◌, refl, sym, subst, append-nil}
 use Rattle.hv_shelf.specs.Disk.{Store}
 use Rattle.hv_history.specs.declared.entry.Entry.{Entry}
-use Rattle.hv_dirs.specs.Names.{write_end}
 use Rattle.hv_history.specs.Journal.{Reads}
-use Rattle.hv_history.specs.State.{nothing_yet, state_of}
-use Rattle.hv_history.specs.Legal.{profile, load, AllFit}
-use Rattle.hv_stands.proofs.Fitting.{load-within}
-use Rattle.hv_law_made.proofs.BareJobs.{standing-recovers}
-use Rattle.hv_law_made.proofs.BookLemmas.{books-are-sound}
+use Rattle.hv_history.specs.State.{state_of}
+use Rattle.hv_history.specs.Legal.{profile}
+use Rattle.hv_house.specs.hv_finals.specs.hv_law_made.proofs.BareJobs.{standing-recovers}
+use Rattle.hv_house.specs.hv_finals.specs.hv_law_made.proofs.BookLemmas.{books-are-sound}
 use Rattle.hv_journal.specs.Appending.{Holds, KeepsTree}
 use Rattle.hv_house.specs.declared.fault.HouseFault.{HouseFault}
 use Rattle.hv_house.specs.declared.fault.HouseFault.TheVariants as fault
@@ -17,16 +15,10 @@ use Rattle.hv_house.specs.House.{entries_of, IsFaithful, Leaves, AreHalted}
 use Rattle.hv_house.proofs.Boots.{reads-journal}
 use Rattle.hv_telling.specs.Telling.{OpensLater, StillOpens}
 use Rattle.hv_telling.specs.Laws.{FaithfulIsLeft, WholeOpens}
+use Rattle.hv_telling.proofs.Few.{few-entries}
 use Rattle.hv_telling.proofs.Told.{both-some, moved-some, same-faithful, true-shown}
 
 -- ---- one store
-
--- a legal book is as long as the profile lets it be
-few-entries : (book : List Entry) → AllFit profile nothing_yet book → (state_of book).entries + 1 < write_end
-few-entries book fit =
-    let none : load nothing_yet ≤ profile.entries = omega arith in
-    let small : load (state_of book) ≤ profile.entries = load-within profile book nothing_yet fit none in
-    omega (arith, small)
 
 pub faithful-is-left : FaithfulIsLeft
 faithful-is-left book store faithful = record {

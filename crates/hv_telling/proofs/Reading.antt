@@ -9,8 +9,9 @@ use Rattle.hv_trail.specs.declared.trail.Mark.TheVariants.{Broke}
 use Rattle.hv_trail.specs.declared.trail.TrailItem.{TrailItem}
 use Rattle.hv_trail.specs.Trail.{book_of}
 use Rattle.hv_trail.specs.Kept.{trail_of}
-use Rattle.hv_trail.specs.Steps.{Read, Outcome, Done, Conflict, Failed, Closed, Refused, gains, Step}
-use Rattle.hv_law_marks.proofs.Standing.{unread-marks-stand}
+use Rattle.hv_trail.specs.Steps.{Read, Outcome, Done, Conflict, Failed, Closed, Starved, Refused, gains, Step}
+use Rattle.hv_law_work.specs.hv_law_marks.proofs.Standing.{unread-marks-stand}
+use Rattle.hv_law_work.proofs.JobMarks.{unread-job-marks}
 use Rattle.hv_house.specs.declared.house.House.{House}
 use Rattle.hv_house.specs.House.{entries_of, IsFaithful}
 use Rattle.hv_house.specs.Steps.{seen_of}
@@ -18,7 +19,7 @@ use Rattle.hv_telling.specs.Telling.{IsToldHouse, StandsByMarks, HoldsTrue, IsWh
 use Rattle.hv_telling.specs.Laws.{ReadsKeepWhole, ReadsStillOpen}
 use Rattle.hv_telling.proofs.Told.{moved-told, moved-some, house-book, holds-told, told-holds, true-shown, told-stays}
 use Rattle.hv_telling.proofs.Opens.{held-opens}
-use Rattle.hv_telling.proofs.Putting.{marked-book}
+use Rattle.hv_telling.proofs.Puts.{marked-book}
 
 -- what it adds to the trail is no entry
 no-entry : (trail : List TrailItem) (by : Option Reader) (outcome : Outcome) → book_of (trail ++ gains (Read by) outcome) ≡ book_of trail
@@ -26,6 +27,7 @@ no-entry trail by (Failed count) = marked-book trail (Broke by false count)
 no-entry trail by Done = ap book_of (append-nil trail)
 no-entry trail by (Conflict with_ table partition) = ap book_of (append-nil trail)
 no-entry trail by Closed = ap book_of (append-nil trail)
+no-entry trail by Starved = ap book_of (append-nil trail)
 no-entry trail by Refused = ap book_of (append-nil trail)
 
 -- and no file is put
@@ -37,10 +39,12 @@ read-true : (trail : List TrailItem) (by : Option Reader) (outcome : Outcome) (s
 read-true trail by (Failed count) store true_ = record {
   faithful = subst (λ (book : List Entry). IsFaithful book store) (sym (marked-book trail (Broke by false count))) true_.faithful;
   marks = unread-marks-stand trail store.tree by false count true_.marks;
+  jobs = unread-job-marks trail store.tree by false count true_.jobs;
 }
 read-true trail by Done store true_ = none-added trail store true_
 read-true trail by (Conflict with_ table partition) store true_ = none-added trail store true_
 read-true trail by Closed store true_ = none-added trail store true_
+read-true trail by Starved store true_ = none-added trail store true_
 read-true trail by Refused store true_ = none-added trail store true_
 
 module _ {D : Type 0} (told : D → Option Store) (faults : D → ℕ) (by : Option Reader) (outcome : Outcome) (before now : House D) (whole : IsWhole told before)

@@ -5,12 +5,13 @@ use Rattle.hv_shelf.specs.Disk.{Store}
 use Rattle.hv_journal.specs.Appending.{KeepsTree}
 use Rattle.hv_history.specs.declared.entry.Entry.{Entry}
 use Rattle.hv_history.specs.State.{state_of}
-use Rattle.hv_law_made.specs.Standing.{Standing}
+use Rattle.hv_house.specs.hv_finals.specs.hv_law_made.specs.Standing.{Standing}
 use Rattle.hv_trail.specs.declared.trail.TrailItem.{TrailItem}
 use Rattle.hv_trail.specs.Kept.{trail_of}
 use Rattle.hv_trail.specs.Trail.{book_of}
 use Rattle.hv_trail.proofs.KeptLaws.{trail-book}
-use Rattle.hv_law_marks.specs.Marked.{MarksStand}
+use Rattle.hv_law_work.specs.hv_law_marks.specs.Marked.{MarksStand}
+use Rattle.hv_law_work.specs.Marks.{JobMarksStand}
 use Rattle.hv_house.specs.declared.house.House.{House}
 use Rattle.hv_house.specs.House.{entries_of, IsFaithful}
 use Rattle.hv_telling.specs.Telling.{IsTold, IsToldHouse, StandsByMarks, HoldsTrue, IsWhole, StillOpens}
@@ -57,6 +58,7 @@ pub same-true : (trail : List TrailItem) (book : List Entry) (before now : Store
 same-true trail book before now same true_ = record {
   faithful = same-faithful book before now same true_.faithful;
   marks = subst (MarksStand trail) (sym same) true_.marks;
+  jobs = subst (JobMarksStand trail) (sym same) true_.jobs;
 }
 
 -- ---- a house

@@ -14,18 +14,22 @@ use Rattle.hv_telling.specs.Telling.{IsToldHouse, HoldsTrue, IsWhole, OpensLater
 -- ---- what a house is that is true
 
 abbrev pub TrueShown : Type 0 → Type 0
-TrueShown D = (told : D → Option Store) (house : House D) → HoldsTrue told house → IsSomeAnd (told house.shelf) (IsFaithful (entries_of house))
+TrueShown D = (told : D → Option Store) (house : House D) → HoldsTrue told house
+    → IsSomeAnd (told house.shelf) (IsFaithful (entries_of house))
 
 -- one that is whole and told, between two calls, opens again as it is
 abbrev pub WholeOpens : Type 0 → Type 0
-WholeOpens D = (told : D → Option Store) (house : House D) → IsWhole told house → IsToldHouse told house → StillOpens told house
+WholeOpens D = (told : D → Option Store) (house : House D) → IsWhole told house → IsToldHouse told house
+    → StillOpens told house
 
 abbrev pub OpensTold : Type 0 → Type 0
-OpensTold D = (told : D → Option Store) (now : House D) → StillOpens told now → IsSomeAnd (told now.shelf) (OpensLater (entries_of now))
+OpensTold D = (told : D → Option Store) (now : House D) → StillOpens told now
+    → IsSomeAnd (told now.shelf) (OpensLater (entries_of now))
 
 -- whoever opened over the same store is told where the other is
 abbrev pub ToldStays : Type 0 → Type 0
-ToldStays D = (told : D → Option Store) (before now : House D) → now.start ≡ before.start → IsToldHouse told before → IsToldHouse told now
+ToldStays D = (told : D → Option Store) (before now : House D) → now.start ≡ before.start → IsToldHouse told before
+    → IsToldHouse told now
 
 -- ---- reading
 
@@ -33,13 +37,15 @@ ToldStays D = (told : D → Option Store) (before now : House D) → now.start �
 abbrev pub ReadsKeepWhole : Type 0 → Type 0
 ReadsKeepWhole D =
     (told : D → Option Store) (faults : D → ℕ) (by : Option Reader) (outcome : Outcome) (before now : House D)
-    → IsWhole told before → Step told faults (Read by) outcome (seen_of before) (seen_of now) → IsReady told now → IsWhole told now
+    → IsWhole told before → Step told faults (Read by) outcome (seen_of before) (seen_of now) → IsReady told now
+    → IsWhole told now
 
 -- and whatever it leaves opens again
 abbrev pub ReadsStillOpen : Type 0 → Type 0
 ReadsStillOpen D =
     (told : D → Option Store) (faults : D → ℕ) (by : Option Reader) (outcome : Outcome) (before now : House D)
-    → IsWhole told before → Step told faults (Read by) outcome (seen_of before) (seen_of now) → IsToldHouse told before → StillOpens told now
+    → IsWhole told before → Step told faults (Read by) outcome (seen_of before) (seen_of now) → IsToldHouse told before
+    → StillOpens told now
 
 -- ---- opening
 

@@ -1,10 +1,12 @@
 -- A house whose store tells its contents: what is true of it between two calls, and what is asked of what it notes and puts.
 -- Source: Hive Transactions; that marks say which files were put is this project's profile.
-use Rattle.std.specs.Prelude.{◌≡◌, ◌⊎◌, ℕ, Option, Some, IsSomeAnd, List, [], ◌∷◌, ◌++◌, take, Contains}
+use Rattle.std.specs.Prelude.{◌≡◌, ◌⊎◌, ℕ, true, Option, Some, None, IsSomeAnd, List, [], ◌∷◌, ◌++◌, map, take, Contains}
 use Rattle.std.specs.List.{AllByRecursion}
+use Rattle.std.specs.FinMap as tree
+use Rattle.hv_base.specs.declared.ids.JobId.{JobId}
 use Rattle.hv_base.specs.declared.ids.TxnId.{TxnId}
 use Rattle.hv_shelf.specs.declared.place.Place.{Place}
-use Rattle.hv_shelf.specs.Disk.{Store}
+use Rattle.hv_shelf.specs.Disk.{Tree, Store}
 use Rattle.hv_ast.specs.declared.statement.Stmt.{Stmt}
 use Rattle.hv_logic.specs.declared.catalog.TableInfo.{TableInfo}
 use Rattle.hv_logic.specs.declared.effect.Effect.{Effect}
@@ -14,17 +16,26 @@ use Rattle.hv_route.specs.Routes.{files_of}
 use Rattle.hv_route.specs.declared.files.OutFile.{OutFile}
 use Rattle.hv_history.specs.declared.entry.Entry.{Entry}
 use Rattle.hv_history.specs.declared.entry.Entry.TheVariants as entry
-use Rattle.hv_history.specs.State.{state_of}
+use Rattle.hv_history.specs.State.{State, Job, numbered, state_of}
 use Rattle.hv_history.specs.Legal.{IsTruthful}
+use Rattle.hv_history.specs.JobsFit.{is_live_job}
 use Rattle.hv_stands.specs.Files.{place_of_file}
 use Rattle.hv_stands.specs.Laws.{HasFile}
 use Rattle.hv_stands.specs.Running.{Asking, meant, IsUnderWay}
+use Rattle.hv_house.specs.hv_finals.specs.hv_law_made.specs.Laws.{IsOwnOf}
+use Rattle.hv_house.specs.hv_finals.specs.hv_law_made.specs.Entries.{publishing, finals, IsAtWork}
+use Rattle.hv_trail.specs.declared.trail.Renaming.{Renaming}
 use Rattle.hv_trail.specs.declared.trail.TrailItem.{TrailItem}
+use Rattle.hv_trail.specs.Trail.{broken}
 use Rattle.hv_trail.specs.Kept.{trail_of}
-use Rattle.hv_law_marks.specs.Marked.{MarksStand}
+use Rattle.hv_law_work.specs.hv_law_marks.specs.Marked.{MarksStand}
+use Rattle.hv_law_work.specs.Work.{by_job, renaming_of, AreStagedAll, AreGone}
+use Rattle.hv_law_work.specs.Marks.{JobMarksStand}
 use Rattle.hv_house.specs.declared.fault.HouseFault.{HouseFault}
 use Rattle.hv_house.specs.declared.fault.HouseFault.TheVariants as fault
 use Rattle.hv_house.specs.declared.house.House.{House}
+use Rattle.hv_house.specs.declared.publishing.PublishFault.{PublishFault}
+use Rattle.hv_house.specs.declared.publishing.PublishFault.TheVariants as publish_fault
 use Rattle.hv_house.specs.House.{entries_of, IsReady, IsFaithful}
 use Rattle.hv_house.specs.Booting.{OpensTo}
 use Rattle.hv_house.specs.Steps.{AreWritten}
@@ -42,11 +53,12 @@ pub record IsTold {D : Type 0} (told : D → Option Store) (start : D) : Type 0 
 abbrev pub IsToldHouse : {D : Type 0} → (D → Option Store) → House D → Type 0
 IsToldHouse told house = IsTold told house.start.value
 
--- the book is legal and its files stand, and in the own directories of open transactions that change rows stand just the files
--- that have marks
+-- The book is legal and its files stand; in the own directories of open transactions that change rows, and where compactions at work stage,
+-- stand just the files that have marks; and where a directory went that nobody writes any more no file stands.
 pub record StandsByMarks (trail : List TrailItem) (book : List Entry) (store : Store) : Type 0 where
   pub faithful : IsFaithful book store
   pub marks : MarksStand trail store.tree
+  pub jobs : JobMarksStand trail store.tree
 
 -- the house's store tells, and is so
 unfoldable pub HoldsTrue : {D : Type 0} → (D → Option Store) → House D → Type 0
@@ -98,17 +110,47 @@ pub record IsPutAsMeant (book : List Entry) (trail : List TrailItem) (txn : TxnI
   pub held : AreHeld effect.inserts
   pub encoded : AllByRecursion HasFile (files_of info.shape write 0 effect)
 
--- What it says of its transaction is so; and what ends one as committed has no write id, or the files of what it means. What publishes, has
--- cleaned or forgets asks of files too, and is for calls of its own.
+-- its table is live, and all that it covers has marks as gone
+pub record IsGoneFor (state : State) (trail : List TrailItem) (job : JobId) : Type 0 where
+  pub which : Job
+  pub is : numbered state.jobs job.0 ≡ Some which
+  pub live : is_live_job state which ≡ true
+  pub gone : AreGone trail state which
+
+-- What it says of its transaction is so; and what ends one as committed has no write id, or the files of what it means. What says that a job
+-- was cleaned has the marks of its directories. What publishes or forgets asks of files too, and is for calls of its own.
 abbrev pub IsTrueNow : List Entry → List TrailItem → Entry → Type 0
 IsTrueNow book trail (entry.Commit txn wrote) =
     IsTruthful (state_of book) (entry.Commit txn wrote) × (HasNoId book txn ⊎ IsPutAsMeant book trail txn)
 IsTrueNow book trail (entry.Create txn table) = IsTruthful (state_of book) (entry.Create txn table) × HasNoId book txn
 IsTrueNow book trail (entry.Drop txn table) = IsTruthful (state_of book) (entry.Drop txn table) × HasNoId book txn
 IsTrueNow book trail (entry.Published job low high mark) = ⊥
-IsTrueNow book trail (entry.Cleaned job) = ⊥
+IsTrueNow book trail (entry.Cleaned job) = IsGoneFor (state_of book) trail job
 IsTrueNow book trail (entry.Forgot table write) = ⊥
 IsTrueNow book trail event = IsTruthful (state_of book) event
+
+-- ---- what is true of what a job does
+
+-- The job is at work and all that it stages has marks, by calls of which none failed: these are its renamings, and with this entry it is
+-- published then.
+pub record IsPublication (state : State) (trail : List TrailItem) (renamings : List Renaming)
+    (event : Entry) : Type 0 where
+  pub number : ℕ
+  pub job : Job
+  pub work : IsAtWork state number job
+  pub event_is : event ≡ publishing state number job
+  pub unbroken : broken (by_job number) trail ≡ None
+  pub staged : AreStagedAll trail state number job work.table
+  pub renamings_are : renamings ≡ map (renaming_of number job) (finals state job work.table.writes)
+
+-- no file stands in an own directory of the id
+abbrev pub HasNoOwn : (table write : ℕ) → Tree → Type 0
+HasNoOwn table write files = (place : Place) → IsOwnOf table write place → tree.get files place ≡ None
+
+-- behind a publication that failed the house is whole where memory lacked before the first name
+abbrev pub StaysPublished : {D : Type 0} → (D → Option Store) → PublishFault → House D → Type 0
+StaysPublished told (publish_fault.House fault.NoMemory) now = IsWhole told now
+StaysPublished told why now = Unit {0}
 
 -- ---- what is true of a file where it is put
 

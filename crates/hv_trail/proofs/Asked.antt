@@ -79,7 +79,7 @@ quiet-marked quiet marks before mark is e reader =
 
 -- ---- files that were put
 
-both : (a b : Bool) → a && b ≡ true → (a ≡ true) × (b ≡ true)
+pub both : (a b : Bool) → a && b ≡ true → (a ≡ true) × (b ≡ true)
 both true true e = (refl, refl)
 both true false e = cc
 both false b e = cc
@@ -95,7 +95,7 @@ is-equal Less e = cc
 is-equal Equal e = refl
 is-equal Greater e = cc
 
-same-place : (x y : Place) → place_eq x y ≡ true → x ≡ y
+pub same-place : (x y : Place) → place_eq x y ≡ true → x ≡ y
 same-place x y e = place_antisymmetric x y (is-equal (place_cmp x y) (sym (place_ties x y) ∙ e))
 
 mark-is : (reader : Reader) (place : Place) (mark : Mark) → wrote_at reader place mark ≡ true → mark ≡ Wrote reader place

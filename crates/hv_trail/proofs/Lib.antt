@@ -2,6 +2,7 @@ pub mod KeptLaws
 pub mod LastingLaws
 pub mod Asked
 pub mod Written
+pub mod Went
 pub mod MarkLaws
 pub mod OwnLaws
 pub mod StepLaws

@@ -150,7 +150,7 @@ added-as : (xs : List Transaction) (x : Transaction) (n : ℕ)
     → numbered (xs ++ x ∷ []) n ≡ (if n == (length xs + 1) then Some x else numbered xs n)
 added-as xs x n = by-number n (length xs + 1) (Some x) (numbered xs n) (numbered (xs ++ x ∷ []) n) (added-here xs x n) (added-there xs x n)
 
--- what a SHOW lists depends on the tables and the transactions alone
+-- what a SHOW lists depends on the tables, the transactions and the jobs alone
 listed-same : (state : State) (event : Entry) (what : Option Show) → listed_by state what ≡ listed_by (state_there (moment_of state event)) what
 unfolding show_listed
 listed-same state event None = refl

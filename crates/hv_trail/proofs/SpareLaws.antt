@@ -1,6 +1,6 @@
 -- An entry adds at most one transaction that is open, and one that ends an open one takes it away: so places that are there stay.
 use Rattle.std.proofs.Common.{◌≡◌, ℕ, zero, suc, ◌+◌, ◌<◌, ◌≤◌, Bool, true, false, is_none, Option, Some, None, List, [], ◌∷◌, ◌++◌, length, map, refl, sym, subst, ap, ◌∙◌, arith}
-use Rattle.std.specs.Prelude.{◌*◌, not, sum_by, Result, Ok, Err, IsOk, OnOk}
+use Rattle.std.specs.Prelude.{◌*◌, not, sum_by}
 use Rattle.std.specs.Option.{option_map}
 use Rattle.std.specs.List.{slice_get}
 use Rattle.std.proofs.lemmas.List.Sums.{sum_by-append, sum_by-cons}
@@ -170,8 +170,3 @@ open-named book numbers is = ap length is ∙ open-count 1 (state_of book).trans
 -- room that is made takes no place away
 pub places_stay : (book now : List Entry) (spare next : ℕ) → now ≡ book → open_count book ≤ spare → spare ≤ next → open_count now ≤ next
 places_stay book now spare next same enough more = omega (arith, ap open_count same, enough, more)
-
--- what is said of an answer that is Ok
-pub of-ok : {T E : Type 0} (result : Result T E) (P : Type 0) → IsOk result → OnOk result P → P
-of-ok (Ok x) P is said = said
-of-ok (Err e) P is said = absurd (let wrong : false ≡ true = is in cc)

@@ -4,7 +4,7 @@ use Rattle.std.specs.Option.{option_to_list}
 use Rattle.std.proofs.lemmas.List.{append-nil}
 use Rattle.hv_shelf.specs.Disk.{Store}
 use Rattle.hv_trail.specs.declared.trail.TrailItem.{TrailItem}
-use Rattle.hv_trail.specs.Steps.{HouseSeen, Call, Note, Begin, Commit, Put, Remove, Read, Ask, Outcome, Done, Conflict, Failed, Closed, Refused, gained, gains, most_items, all_gains, IsShutOut, Step, Run, KeepsRest}
+use Rattle.hv_trail.specs.Steps.{HouseSeen, Call, Note, Begin, Commit, Put, Remove, Publish, Read, Ask, Outcome, Done, Conflict, Failed, Closed, Starved, Refused, gained, gains, most_items, all_gains, IsShutOut, Step, Run, KeepsRest}
 use Rattle.hv_trail.specs.Lasting.{GoesOn}
 use Rattle.hv_trail.proofs.LastingLaws.{goes-on-front}
 
@@ -18,10 +18,12 @@ gains-few (Begin txn session number text) Done = omega arith
 gains-few (Begin txn session number text) (Conflict with_ table partition) = omega arith
 gains-few (Begin txn session number text) (Failed count) = omega arith
 gains-few (Begin txn session number text) Closed = omega arith
+gains-few (Begin txn session number text) Starved = omega arith
 gains-few (Begin txn session number text) Refused = omega arith
 gains-few (Commit txn wrote) outcome = one-at-most (gained (Commit txn wrote) outcome)
 gains-few (Put by place bytes) outcome = one-at-most (gained (Put by place bytes) outcome)
 gains-few (Remove by dir) outcome = one-at-most (gained (Remove by dir) outcome)
+gains-few (Publish renames event) outcome = one-at-most (gained (Publish renames event) outcome)
 gains-few (Read by) outcome = one-at-most (gained (Read by) outcome)
 gains-few Ask outcome = one-at-most (gained Ask outcome)
 
@@ -31,6 +33,7 @@ two-at-most (Note event) = omega arith
 two-at-most (Commit txn wrote) = omega arith
 two-at-most (Put by place bytes) = omega arith
 two-at-most (Remove by dir) = omega arith
+two-at-most (Publish renames event) = omega arith
 two-at-most (Read by) = omega arith
 two-at-most Ask = omega arith
 
@@ -45,6 +48,7 @@ shut-gains (Begin txn session number text) outcome e = ap (λ o. gains (Begin tx
 shut-gains (Commit txn wrote) outcome e = ap (λ o. gains (Commit txn wrote) o) e
 shut-gains (Put by place bytes) outcome e = ap (λ o. gains (Put by place bytes) o) e
 shut-gains (Remove by dir) outcome e = ap (λ o. gains (Remove by dir) o) e
+shut-gains (Publish renames event) outcome e = ap (λ o. gains (Publish renames event) o) e
 shut-gains (Read by) outcome e = ap (λ o. gains (Read by) o) e
 shut-gains Ask outcome e = refl
 

@@ -26,26 +26,26 @@ same-reader : (reader : Reader) → is_reader reader (Some reader) ≡ true
 same-reader (Txn txn) = eq-eqb txn.0 txn.0 refl
 same-reader (Job job) = eq-eqb job.0 job.0 refl
 
-same-place : (place : Place) → place_eq place place ≡ true
-same-place place = place_ties place place ∙ ap is_eq (tied_itself place_total place)
+pub self-place : (place : Place) → place_eq place place ≡ true
+self-place place = place_ties place place ∙ ap is_eq (tied_itself place_total place)
 
-and-true : (a b : Bool) → a ≡ true → b ≡ true → a && b ≡ true
+pub and-true : (a b : Bool) → a ≡ true → b ≡ true → a && b ≡ true
 and-true true b e h = h
 and-true false b e h = e
 
 says-itself : (reader : Reader) (place : Place) → wrote_at reader place (Wrote reader place) ≡ true
-says-itself reader place = and-true (is_reader reader (Some reader)) (place_eq place place) (same-reader reader) (same-place place)
+says-itself reader place = and-true (is_reader reader (Some reader)) (place_eq place place) (same-reader reader) (self-place place)
 
 -- ---- a mark of the trail is kept
 
-first-or-later : {A : Type 0} (x : A) (xs : List A) (y : A) → Contains (x ∷ xs) y → (x ≡ y) ⊎ Contains xs y
+pub first-or-later : {A : Type 0} (x : A) (xs : List A) (y : A) → Contains (x ∷ xs) y → (x ≡ y) ⊎ Contains xs y
 first-or-later x xs y h = by h.0 h.1 h.2
   where
     by : (k : ℕ) → k < length (x ∷ xs) → slice_index_or (x ∷ xs) k y ≡ y → (x ≡ y) ⊎ Contains xs y
     by zero within is = inl is
     by (suc k) within is = inr (k, omega (arith, within), is)
 
-behind-book : (book : List Entry) (items : List TrailItem) (mark : Mark) → Contains (map Noted book ++ items) (Marked mark) → Contains items (Marked mark)
+pub behind-book : (book : List Entry) (items : List TrailItem) (mark : Mark) → Contains (map Noted book ++ items) (Marked mark) → Contains items (Marked mark)
 behind-book [] items mark h = h
 behind-book (event ∷ book) items mark h = by (first-or-later (Noted event) (map Noted book ++ items) (Marked mark) h) (behind-book book items mark)
   where
@@ -54,7 +54,7 @@ behind-book (event ∷ book) items mark h = by (first-or-later (Noted event) (ma
     by (inl same) rest = absurd (cc)
     by (inr more) rest = rest more
 
-no-mark : (book : List Entry) (mark : Mark) → Contains (map Noted book) (Marked mark) → ⊥
+pub no-mark : (book : List Entry) (mark : Mark) → Contains (map Noted book) (Marked mark) → ⊥
 no-mark [] mark h = let within = h.1 in absurd (omega (arith, within))
 no-mark (event ∷ book) mark h = by (first-or-later (Noted event) (map Noted book) (Marked mark) h) (no-mark book mark)
   where
@@ -62,11 +62,11 @@ no-mark (event ∷ book) mark h = by (first-or-later (Noted event) (map Noted bo
     by (inl same) rest = cc
     by (inr more) rest = rest more
 
-or-first : (a b : Bool) → a ≡ true → a || b ≡ true
+pub or-first : (a b : Bool) → a ≡ true → a || b ≡ true
 or-first true b e = refl
 or-first false b e = cc
 
-or-later : (a b : Bool) → b ≡ true → a || b ≡ true
+pub or-later : (a b : Bool) → b ≡ true → a || b ≡ true
 or-later true b e = refl
 or-later false b e = e
 

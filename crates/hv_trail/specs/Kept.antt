@@ -1,17 +1,20 @@
 -- A trail as a house keeps it: the book and the marks apart.
-use Rattle.std.specs.Prelude.{if◌then◌else◌, ◌≡◌, ℕ, Bool, true, false, ◌&&◌, ◌+◌, ◌≤◌, Option, Some, None, List, [], ◌∷◌, length}
+use Rattle.std.specs.Prelude.{if◌then◌else◌, ◌≡◌, ℕ, Bool, true, false, ◌&&◌, ◌+◌, ◌≤◌, ◌==◌, nat_eq, Option, Some, None, List, [], ◌∷◌, length}
+use Rattle.std.specs.Cmp.Lexicographic.{pointwise}
 use Rattle.hv_shelf.specs.declared.place.Place.{Place}
+use Rattle.hv_shelf.specs.declared.place.DirAt.{DirAt}
 use Rattle.hv_shelf.specs.Places.{place_eq}
 use Rattle.hv_book.specs.hv_history.specs.declared.entry.Entry.{Entry}
 use Rattle.hv_book.specs.hv_history.specs.State.{first_known}
 use Rattle.hv_trail.specs.declared.trail.Reader.{Reader}
 use Rattle.hv_trail.specs.declared.trail.Mark.{Mark}
-use Rattle.hv_trail.specs.declared.trail.Mark.TheVariants.{Wrote, Broke}
+use Rattle.hv_trail.specs.declared.trail.Mark.TheVariants.{Wrote, Went, Broke}
 use Rattle.hv_trail.specs.declared.trail.TrailItem.{TrailItem}
 use Rattle.hv_trail.specs.Trail.{is_reader, woven_from}
 
 -- The entries, and how many more fit without asking for memory; the marks, each with the number of entries before it, and how
--- many more of them fit; how many items the opening left; and whether the journal failed.
+-- many more of them fit; how many items the opening left; whether nothing more is done, since the journal failed or memory lacked in a
+-- publication; and whether it was memory.
 pub record TrailKept : Type 0 where
   pub entries : List Entry
   pub spare : ℕ
@@ -19,6 +22,7 @@ pub record TrailKept : Type 0 where
   pub room : ℕ
   pub opened : ℕ
   pub closed : Bool
+  pub starved : Bool
 
 abbrev pub trail_of : TrailKept → List TrailItem
 trail_of kept = woven_from 0 kept.entries kept.marks
@@ -61,3 +65,14 @@ wrote_at reader place mark = false
 abbrev pub is_written : Reader → Place → Option (ℕ × Mark) → Bool
 is_written reader place None = false
 is_written reader place (Some mark) = wrote_at reader place mark.1
+
+-- whether a mark says that the files of this directory were taken away
+abbrev pub dir_eq : DirAt → DirAt → Bool
+dir_eq x y = (x.table.0 == y.table.0) && (pointwise nat_eq x.partition y.partition && pointwise nat_eq x.dir y.dir)
+
+abbrev pub went_at : DirAt → Mark → Bool
+went_at dir (Went at) = dir_eq at dir
+went_at dir mark = false
+
+abbrev pub is_gone_by : DirAt → ℕ × Mark → Bool
+is_gone_by dir mark = went_at dir mark.1

@@ -8,7 +8,7 @@ use Rattle.hv_book.specs.hv_history.specs.declared.entry.Cause.TheVariants as ca
 use Rattle.hv_book.specs.hv_history.specs.declared.state.Table.{Table}
 use Rattle.hv_book.specs.hv_history.specs.declared.state.Transaction.{Transaction}
 use Rattle.hv_book.specs.hv_history.specs.declared.state.Ending.TheVariants.{Aborted, Made, Dropped}
-use Rattle.hv_book.specs.hv_history.specs.State.{State, nothing_yet, after, opened, started, given_id, committed, ended, while_open}
+use Rattle.hv_book.specs.hv_history.specs.State.{State, Job, nothing_yet, after, opened, started, given_id, committed, ended, while_open}
 use Rattle.hv_book.specs.hv_history.specs.Lasting.{txn_of}
 use Rattle.hv_trail.specs.declared.trail.Mark.{Mark}
 use Rattle.hv_trail.specs.declared.trail.Reader.TheVariants.{Txn}
@@ -62,16 +62,24 @@ own_places txn trail = places_from txn 0 nothing_yet trail
 
 -- ---- what its own entries make of it
 
--- an entry, with what it reads of the book before it: how many entries there are, the tables, and for a SHOW the transactions
+-- an entry, with what it reads of the book before it: how many entries there are, the tables, and for a SHOW the
+-- transactions and the jobs
 pub record Moment : Type 0 where
   pub event : Entry
   pub place : ℕ
   pub transactions : List Transaction
   pub tables : List Table
+  pub jobs : List Job
 
 abbrev pub moment_of : State → Entry → Moment
 moment_of state event =
-    record { event = event; place = state.entries; transactions = state.transactions; tables = state.tables }
+    record {
+      event = event;
+      place = state.entries;
+      transactions = state.transactions;
+      tables = state.tables;
+      jobs = state.jobs;
+    }
 
 abbrev pub moments_from : ℕ → State → List TrailItem → List Moment
 moments_from txn state [] = []
@@ -83,10 +91,15 @@ moments_from txn state (Marked mark ∷ items) = moments_from txn state items
 abbrev pub own_moments : ℕ → List TrailItem → List Moment
 own_moments txn trail = moments_from txn nothing_yet trail
 
--- a state with so many entries, these transactions and these tables
+-- a state with so many entries, these transactions, these tables and these jobs
 abbrev pub state_there : Moment → State
 state_there moment =
-    record nothing_yet { entries = moment.place; transactions = moment.transactions; tables = moment.tables }
+    record nothing_yet {
+      entries = moment.place;
+      transactions = moment.transactions;
+      tables = moment.tables;
+      jobs = moment.jobs;
+    }
 
 -- what an entry does to the transaction that it is about
 abbrev pub done_by : Moment → Entry → Transaction → Transaction

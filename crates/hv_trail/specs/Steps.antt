@@ -11,25 +11,27 @@ use Rattle.hv_base.specs.declared.ids.Touch.{Touch}
 use Rattle.hv_base.specs.declared.ids.Limits.{Limits}
 use Rattle.hv_shelf.specs.declared.place.Place.{Place}
 use Rattle.hv_shelf.specs.declared.place.DirAt.{DirAt}
-use Rattle.hv_shelf.specs.Disk.{Store, HasFile, TornFile, IsRemoved, TornRemove}
+use Rattle.hv_shelf.specs.Disk.{Store, HasFile, TornFile, IsRemoved, TornRemove, IsRenamed}
 use Rattle.hv_book.specs.hv_history.specs.declared.entry.Entry.{Entry}
 use Rattle.hv_book.specs.hv_history.specs.declared.entry.Entry.TheVariants as entry
 use Rattle.hv_book.specs.hv_history.specs.declared.entry.Cause.TheVariants as cause
 use Rattle.hv_book.specs.hv_history.specs.Journal.{IsJournal}
 use Rattle.hv_trail.specs.declared.trail.Reader.{Reader}
 use Rattle.hv_trail.specs.declared.trail.Mark.TheVariants.{Wrote, Went, Broke}
+use Rattle.hv_trail.specs.declared.trail.Renaming.{Renaming}
 use Rattle.hv_trail.specs.declared.trail.TrailItem.{TrailItem}
 use Rattle.hv_trail.specs.declared.trail.TrailItem.TheVariants.{Noted, Marked}
 use Rattle.hv_trail.specs.Trail.{book_of}
 
 -- A house as contracts see it: the store that it was opened over, what happened, how many items stood when it was opened, its
--- store, whether its journal failed, and its limits.
+-- store, whether it is closed, whether that was for want of memory, and its limits.
 pub record HouseSeen (D : Type 0) : Type 0 where
   pub start : D
   pub trail : List TrailItem
   pub opened : ℕ
   pub shelf : D
   pub closed : Bool
+  pub starved : Bool
   pub limits : Limits
 
 -- ---- the calls, by what they are to do
@@ -45,6 +47,8 @@ pub data Call : Type 0 where
   Put : Reader → Place → List ℕ → Call
   -- take away the files of a directory
   Remove : Option Reader → DirAt → Call
+  -- give directories other names, one after another, and then note an entry
+  Publish : List Renaming → Entry → Call
   -- list or get files
   Read : Option Reader → Call
   -- ask the house alone
@@ -57,16 +61,23 @@ pub data Outcome : Type 0 where
   Conflict : TxnId → TableId → List ℕ → Outcome
   -- a call on files failed, and the store counts so many faults
   Failed : ℕ → Outcome
-  -- the journal failed, now or before
+  -- the journal or a renaming failed, now or before
   Closed : Outcome
+  -- memory lacked behind the first of several renamings
+  Starved : Outcome
   -- any other refusal
   Refused : Outcome
 
--- a conflict is the answer of a commit alone, and a failed call on files that of a call that makes one
+-- a conflict is the answer of a commit alone, a failed call on files that of a call that makes one, and want of memory between renamings
+-- that of a publication
 abbrev pub MayEnd : Call → Outcome → Type 0
 MayEnd (Commit txn wrote) (Failed count) = ⊥
+MayEnd (Commit txn wrote) Starved = ⊥
 MayEnd (Commit txn wrote) outcome = Unit {0}
 MayEnd call (Conflict with_ table partition) = ⊥
+MayEnd (Publish renames event) (Failed count) = ⊥
+MayEnd (Publish renames event) outcome = Unit {0}
+MayEnd call Starved = ⊥
 MayEnd (Note event) (Failed count) = ⊥
 MayEnd (Begin txn session number text) (Failed count) = ⊥
 MayEnd Ask (Failed count) = ⊥
@@ -88,6 +99,7 @@ gained (Put by place bytes) (Failed count) = Some (Marked (Broke (Some by) true 
 gained (Remove by dir) Done = Some (Marked (Went dir))
 gained (Remove by dir) (Failed count) = Some (Marked (Broke by false count))
 gained (Read by) (Failed count) = Some (Marked (Broke by false count))
+gained (Publish renames event) Done = Some (Noted event)
 gained call outcome = None
 
 -- all that it gains: a statement's beginning has two items
@@ -98,7 +110,13 @@ gains call outcome = option_to_list (gained call outcome)
 -- whether the house is closed by it
 abbrev pub shuts : Outcome → Bool
 shuts Closed = true
+shuts Starved = true
 shuts outcome = false
+
+-- and whether that is for want of memory, where it was so before or not
+abbrev pub StarvesBy : Outcome → Bool → Bool → Type 0
+StarvesBy Starved before now = now ≡ true
+StarvesBy outcome before now = now ≡ before
 
 -- the most that it gains
 abbrev pub most_items : Call → ℕ
@@ -120,6 +138,41 @@ pub record NotesNone (book : List Entry) (before now : Store) : Type 0 where
   pub tree_is : now.tree ≡ before.tree
   pub reads : IsJournal book before.journal → IsJournal book now.journal
 
+-- directories got their names, one after another
+abbrev pub AreMoved : List Renaming → Store → Store → Type 0
+AreMoved [] before now = now ≡ before
+AreMoved (renaming ∷ renamings) before now =
+    (middle : Store) × IsRenamed renaming.from renaming.to before middle × AreMoved renamings middle now
+
+-- all of them did, and then the journal reads to the book with the entry
+pub record PublishesAs (renamings : List Renaming) (event : Entry) (book : List Entry) (before now : Store) : Type 0 where
+  pub middle : Store
+  pub moved : AreMoved renamings before middle
+  pub noted : Notes (event ∷ []) book middle now
+
+-- the journal reads on to the book, or, where all got their names, to that or to it with the entry
+abbrev pub EndsCut : List Renaming → Entry → List Entry → Store → Store → Type 0
+EndsCut [] event book = NotesOrNot (event ∷ []) book
+EndsCut (renaming ∷ renamings) event book = NotesNone book
+
+-- some of them did, the first ones
+pub record CutsPublication (renamings : List Renaming) (event : Entry) (book : List Entry) (before now : Store) : Type 0 where
+  pub front : List Renaming
+  pub rest : List Renaming
+  pub parts : renamings ≡ front ++ rest
+  pub middle : Store
+  pub moved : AreMoved front before middle
+  pub ends : EndsCut rest event book middle now
+
+-- and the journal reads to the book, though all may have got their names
+pub record StarvesPublication (renamings : List Renaming) (book : List Entry) (before now : Store) : Type 0 where
+  pub front : List Renaming
+  pub rest : List Renaming
+  pub parts : renamings ≡ front ++ rest
+  pub middle : Store
+  pub moved : AreMoved front before middle
+  pub ends : NotesNone book middle now
+
 -- what becomes of the store of a house with this book: what the trail gained was done, and a failed call leaves what it may
 abbrev pub Changes : List Entry → Call → Outcome → Store → Store → Type 0
 Changes book (Note event) Done = Notes (event ∷ []) book
@@ -137,6 +190,10 @@ Changes book (Commit txn wrote) Closed =
 Changes book (Put by place bytes) Done = HasFile place bytes
 Changes book (Put by place bytes) (Failed count) = TornFile place
 Changes book (Put by place bytes) Closed = TornFile place
+Changes book (Publish renames event) Done = PublishesAs renames event book
+Changes book (Publish renames event) Closed = CutsPublication renames event book
+Changes book (Publish renames event) Starved = StarvesPublication renames book
+Changes book (Publish renames event) Refused = NotesNone book
 Changes book (Remove by dir) Done = IsRemoved dir
 Changes book (Remove by dir) (Failed count) = TornRemove dir
 Changes book (Remove by dir) Closed = TornRemove dir
@@ -165,6 +222,7 @@ pub record Step {D : Type 0} (told : D → Option Store) (faults : D → ℕ) (c
   pub trail : now.trail ≡ before.trail ++ gains call outcome
   pub store : Moves (Changes (book_of before.trail) call outcome) (told before.shelf) (told now.shelf)
   pub closed : now.closed ≡ before.closed || shuts outcome
+  pub starved : StarvesBy outcome before.starved now.starved
   pub shut_out : before.closed ≡ true → IsShutOut call outcome
   pub counts : Counts outcome (faults before.shelf) (faults now.shelf)
   pub rest : KeepsRest before now

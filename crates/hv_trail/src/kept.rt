@@ -2,8 +2,9 @@ ghost use Rattle.std.specs.Prelude.{◌≡◌, ◌↔◌, ◌+◌, ◌^◌, ◌�
 ghost use Rattle.hv_book.specs.hv_history.specs.declared.entry.Entry.{Entry};
 ghost use Rattle.hv_book.specs.hv_history.specs.Book.{tree_of_entry};
 ghost use Rattle.hv_trail.specs.declared.trail.TrailItem.TheVariants as item;
-ghost use Rattle.hv_trail.specs.Trail.{is_reader, woven_from, broken, HasWritten};
-ghost use Rattle.hv_trail.specs.Kept.{trail_of, is_fault, fault_of, broken_in, wrote_at, is_written};
+ghost use Rattle.std.specs.List.{list_any};
+ghost use Rattle.hv_trail.specs.Trail.{is_reader, woven_from, broken, HasWritten, HasGone};
+ghost use Rattle.hv_trail.specs.Kept.{trail_of, is_fault, fault_of, broken_in, wrote_at, is_written, went_at, is_gone_by};
 ghost use Rattle.hv_trail.specs.Spare.{open_count, ends_open, needs_room, HavePlaces, HasPlace};
 
 use crate::trail::{Mark, Reader};
@@ -11,19 +12,21 @@ use hv_ast::Stmt;
 use hv_base::NoMemory;
 use hv_book::hv_history::Entry;
 use hv_book::{Book, is_open};
-use hv_shelf::Place;
+use hv_shelf::{DirAt, Place};
 use std::alloc::Global;
 use std::marker::Model;
 
 /// The trail of a house: its book, and the marks, each with the number of entries before it. So each entry stands once.
-/// It is closed where the journal failed. For each transaction that is open there is room for one entry more, so what ends it
-/// asks for no memory.
+/// It is closed where the journal failed, or where memory lacked in a publication. For each transaction that is open there is
+/// room for one entry more, so what ends it asks for no memory.
 #[derive(Drop)]
 pub struct KeptTrail {
     book: Book,
     marks: Vec<(u64, Mark)>,
     opened: u64,
     closed: bool,
+    /// It is closed for want of memory.
+    starved: bool,
     /// No call on files failed. So nobody looks through the marks for one that did.
     quiet: bool,
 }
@@ -42,6 +45,7 @@ impl Model for KeptTrail {
       room = vec_capacity trail.marks - vec_len trail.marks;
       opened = trail.opened;
       closed = trail.closed;
+      starved = trail.starved;
     } };
 
     ghost invariant = { λ trail. IsWhole trail.book.entries trail.marks.items trail.opened
@@ -148,6 +152,31 @@ fn any_written(reader: Reader, place: &Place, marks: &[(u64, Mark)]) -> bool
     false
 }
 
+/// Whether a mark says that the files of this directory were taken away.
+fn went_at(dir: &DirAt, mark: &Mark) -> bool
+    ensures { result ≡ went_at dir.now mark.now }
+{
+    match mark {
+        Mark::Went { dir: at } => {
+            at.table.0 == dir.table.0 && (at.partition == dir.partition && at.dir == dir.dir)
+        }
+        Mark::Wrote { .. } => false,
+        Mark::Broke { .. } => false,
+    }
+}
+
+/// Whether one of the marks says so.
+fn any_went(dir: &DirAt, marks: &[(u64, Mark)]) -> bool
+    ensures { result ≡ list_any (is_gone_by dir.now) marks.now }
+{
+    for kept in marks {
+        if went_at(dir, &kept.1) {
+            return true;
+        }
+    }
+    false
+}
+
 /// Whether an entry ends a transaction that is open.
 fn ends_open(book: &Book, entry: &Entry) -> bool
     ensures { result ≡ ends_open book.now.entries entry.now }
@@ -197,7 +226,8 @@ fn put(book: &mut Book, entry: Entry, tree: Option<Stmt>) -> Result<(), NoMemory
     ensures spare { open_count book.new.entries ≤ book.new.spare }
     ensures taken { book.old.spare ≤ book.new.spare + 1 }
 {
-    book.push(entry, tree)
+    book.put(entry, tree);
+    Ok(())
 }
 
 fn append(marks: &mut Vec<(u64, Mark)>, before: u64, mark: Mark)
@@ -215,12 +245,14 @@ impl KeptTrail {
         ensures marks { result.marks ≡ [] }
         ensures opened { result.opened ≡ 0 }
         ensures closed { result.closed ≡ false }
+        ensures starved { result.starved ≡ false }
     {
         KeptTrail {
             book,
             marks: Vec::new(alloc),
             opened: 0,
             closed: false,
+            starved: false,
             quiet: true,
         }
     }
@@ -253,6 +285,7 @@ impl KeptTrail {
         ensures spare { self.new.spare ≡ self.old.spare }
         ensures marks { self.new.marks ≡ self.old.marks }
         ensures closed { self.new.closed ≡ self.old.closed }
+        ensures starved { self.new.starved ≡ self.old.starved }
     {
         self.opened = self.book.entries().len() as u64 + self.marks.len() as u64;
     }
@@ -260,6 +293,7 @@ impl KeptTrail {
     /// Closes it: the journal failed.
     pub fn close(&mut self)
         ensures closed { self.new.closed ≡ true }
+        ensures starved { self.new.starved ≡ self.old.starved }
         ensures entries { self.new.entries ≡ self.old.entries }
         ensures spare { self.new.spare ≡ self.old.spare }
         ensures marks { self.new.marks ≡ self.old.marks }
@@ -268,10 +302,30 @@ impl KeptTrail {
         self.closed = true;
     }
 
+    /// Closes it for want of memory: directories got their names, and the journal wasn't told.
+    pub fn starve(&mut self)
+        ensures closed { self.new.closed ≡ true }
+        ensures starved { self.new.starved ≡ true }
+        ensures entries { self.new.entries ≡ self.old.entries }
+        ensures spare { self.new.spare ≡ self.old.spare }
+        ensures marks { self.new.marks ≡ self.old.marks }
+        ensures opened { self.new.opened ≡ self.old.opened }
+    {
+        self.closed = true;
+        self.starved = true;
+    }
+
     pub fn is_closed(&self) -> bool
         ensures closed { result ≡ self.now.closed }
     {
         self.closed
+    }
+
+    /// Whether it is closed for want of memory.
+    pub fn is_starved(&self) -> bool
+        ensures starved { result ≡ self.now.starved }
+    {
+        self.starved
     }
 
     /// Makes room for this entry and so many behind it. One that ends an open transaction and stands alone has its place, and
@@ -282,6 +336,7 @@ impl KeptTrail {
         ensures marks { self.new.marks ≡ self.old.marks }
         ensures opened { self.new.opened ≡ self.old.opened }
         ensures closed { self.new.closed ≡ self.old.closed }
+        ensures starved { self.new.starved ≡ self.old.starved }
         ensures places { OnOk result (HavePlaces self.new.entries self.new.spare first.now more) }
         ensures has { needs_room self.old.entries first.now more ≡ false → IsOk result }
     {
@@ -298,6 +353,7 @@ impl KeptTrail {
         ensures marks { self.new.marks ≡ self.old.marks }
         ensures opened { self.new.opened ≡ self.old.opened }
         ensures closed { self.new.closed ≡ self.old.closed }
+        ensures starved { self.new.starved ≡ self.old.starved }
         ensures spare { self.old.spare ≤ self.new.spare + 1 }
         ensures room { IsOk result }
     {
@@ -311,6 +367,7 @@ impl KeptTrail {
         ensures marks { self.new.marks ≡ self.old.marks }
         ensures opened { self.new.opened ≡ self.old.opened }
         ensures closed { self.new.closed ≡ self.old.closed }
+        ensures starved { self.new.starved ≡ self.old.starved }
         ensures spare { self.new.spare ≡ self.old.spare }
         ensures room { OnOk result (0 < self.new.room) }
     {
@@ -326,6 +383,7 @@ impl KeptTrail {
         ensures trail { trail_of self.new ≡ trail_of self.old ++ item.Marked mark ∷ [] }
         ensures opened { self.new.opened ≡ self.old.opened }
         ensures closed { self.new.closed ≡ self.old.closed }
+        ensures starved { self.new.starved ≡ self.old.starved }
         ensures spare { self.new.spare ≡ self.old.spare }
     {
         let before = self.book.entries().len() as u64;
@@ -349,5 +407,12 @@ impl KeptTrail {
         ensures written { IsTrue result ↔ HasWritten (trail_of self.now) reader place.now }
     {
         any_written(reader, place, &self.marks)
+    }
+
+    /// Whether a mark says that the files of this directory were taken away.
+    pub fn has_gone(&self, dir: &DirAt) -> bool
+        ensures gone { IsTrue result ↔ HasGone (trail_of self.now) dir.now }
+    {
+        any_went(dir, &self.marks)
     }
 }

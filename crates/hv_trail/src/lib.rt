@@ -19,5 +19,5 @@ pub use marks::{book_and_marks_are_the_trail, items_count_once};
 pub use own::{own_entries_make_the_record, own_places_rise};
 pub use serial::{one_after_another, replies_last};
 pub use steps::{a_step_adds_few, steps_add_up};
-pub use trail::{Mark, Reader, TrailItem};
+pub use trail::{Mark, Reader, Renaming, TrailItem};
 pub use worked::{worked_marks, worked_places, worked_records, worked_steps};

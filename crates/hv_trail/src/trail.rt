@@ -1,4 +1,4 @@
-use hv_base::{JobId, TxnId};
+use hv_base::{JobId, Text, TxnId};
 use hv_book::hv_history::Entry;
 use hv_shelf::{DirAt, Place};
 
@@ -34,4 +34,11 @@ pub enum Mark {
 pub enum TrailItem {
     Noted(Entry),
     Marked(Mark),
+}
+
+/// A directory, and the name that it is given.
+#[derive(Drop)]
+pub struct Renaming {
+    pub from: DirAt,
+    pub to: Text,
 }

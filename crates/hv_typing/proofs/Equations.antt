@@ -1,20 +1,20 @@
 -- The equations of `typed`, and its parts in order.
 use Rattle.std.proofs.Common.{◌≡◌, ℕ, Bool, List, [], ◌∷◌, ◌++◌, map, Option, Some, None, option_map, Result, Ok, Err, refl, sym, ap, ◌∙◌, subst, append_assoc}
 use Rattle.hv_base.specs.declared.refusal.Refusal.{Refusal}
-use Rattle.hv_ast.specs.declared.expr.Arithmetic.{Arithmetic}
-use Rattle.hv_ast.specs.declared.expr.Binary.{Binary}
-use Rattle.hv_ast.specs.declared.expr.Unary.{Unary}
-use Rattle.hv_ast.specs.declared.expr.Literal.{Literal}
-use Rattle.hv_ast.specs.declared.expr.Operation.{Operation}
-use Rattle.hv_ast.specs.declared.expr.When.{When}
-use Rattle.hv_ast.specs.declared.expr.Expr.{Expr}
-use Rattle.hv_ast.specs.declared.expr.Expr.TheOpen.{Expr-F}
-use Rattle.hv_ast.specs.declared.expr.Expr.TheViews.{out-Expr, roll-Expr, out-roll-Expr}
-use Rattle.hv_ast.specs.declared.expr.Expr.TheFolds.{fold_out-Expr, map-Expr}
-use Rattle.hv_ast.specs.declared.expr.Expr.TheShapes
-use Rattle.hv_ast.specs.declared.expr.Expr.TheVariants as expr
-use Rattle.hv_ast.specs.declared.expr.Expr.TheVariants.{rolls-Or, rolls-And, rolls-Unary, rolls-Binary, rolls-Chain, rolls-Between, rolls-In, rolls-Literal, rolls-Column, rolls-Case, rolls-Cast, rolls-CountRows, rolls-Call}
-use Rattle.hv_ast.specs.declared.types.TypeName.{TypeName}
+use Rattle.hv_logic.specs.hv_ast.specs.declared.expr.Arithmetic.{Arithmetic}
+use Rattle.hv_logic.specs.hv_ast.specs.declared.expr.Binary.{Binary}
+use Rattle.hv_logic.specs.hv_ast.specs.declared.expr.Unary.{Unary}
+use Rattle.hv_logic.specs.hv_ast.specs.declared.expr.Literal.{Literal}
+use Rattle.hv_logic.specs.hv_ast.specs.declared.expr.Operation.{Operation}
+use Rattle.hv_logic.specs.hv_ast.specs.declared.expr.When.{When}
+use Rattle.hv_logic.specs.hv_ast.specs.declared.expr.Expr.{Expr}
+use Rattle.hv_logic.specs.hv_ast.specs.declared.expr.Expr.TheOpen.{Expr-F}
+use Rattle.hv_logic.specs.hv_ast.specs.declared.expr.Expr.TheViews.{out-Expr, roll-Expr, out-roll-Expr}
+use Rattle.hv_logic.specs.hv_ast.specs.declared.expr.Expr.TheFolds.{fold_out-Expr, map-Expr}
+use Rattle.hv_logic.specs.hv_ast.specs.declared.expr.Expr.TheShapes
+use Rattle.hv_logic.specs.hv_ast.specs.declared.expr.Expr.TheVariants as expr
+use Rattle.hv_logic.specs.hv_ast.specs.declared.expr.Expr.TheVariants.{rolls-Or, rolls-And, rolls-Unary, rolls-Binary, rolls-Chain, rolls-Between, rolls-In, rolls-Literal, rolls-Column, rolls-Case, rolls-Cast, rolls-CountRows, rolls-Call}
+use Rattle.hv_logic.specs.hv_ast.specs.declared.types.TypeName.{TypeName}
 use Rattle.hv_logic.specs.Shapes.{type_of}
 use Rattle.hv_expr.specs.declared.function.Many.TheVariants as many
 use Rattle.hv_expr.specs.declared.tree.Branch.{Branch}

@@ -2,18 +2,18 @@
 use Rattle.std.proofs.Common.{◌≡◌, ℕ, Bool, true, not, ◌&&◌, List, [], ◌∷◌, map, Option, Some, None, Result, Ok, refl, sym, ap, ◌∙◌}
 use Rattle.std.specs.List.{list_any}
 use Rattle.hv_base.specs.declared.refusal.Refusal.{Refusal}
-use Rattle.hv_ast.specs.declared.query.From.{From}
-use Rattle.hv_ast.specs.declared.query.Join.{Join}
-use Rattle.hv_ast.specs.declared.query.Query.{Query}
-use Rattle.hv_ast.specs.declared.query.Select.{Select}
-use Rattle.hv_ast.specs.declared.query.Source.{Source}
-use Rattle.hv_ast.specs.declared.query.Source.TheOpen.{Source-F}
-use Rattle.hv_ast.specs.declared.query.Source.TheShapes
-use Rattle.hv_ast.specs.declared.query.Source.TheFolds.{fold_out-Source, map-Source}
-use Rattle.hv_ast.specs.declared.query.Source.TheVariants as source
-use Rattle.hv_ast.specs.declared.query.Source.TheVariants.{rolls-Table, rolls-Query}
-use Rattle.hv_ast.specs.declared.query.Source.TheViews.{out-Source, roll-Source, out-roll-Source}
-use Rattle.hv_ast.specs.declared.query.Union.{Union}
+use Rattle.hv_logic.specs.hv_ast.specs.declared.query.From.{From}
+use Rattle.hv_logic.specs.hv_ast.specs.declared.query.Join.{Join}
+use Rattle.hv_logic.specs.hv_ast.specs.declared.query.Query.{Query}
+use Rattle.hv_logic.specs.hv_ast.specs.declared.query.Select.{Select}
+use Rattle.hv_logic.specs.hv_ast.specs.declared.query.Source.{Source}
+use Rattle.hv_logic.specs.hv_ast.specs.declared.query.Source.TheOpen.{Source-F}
+use Rattle.hv_logic.specs.hv_ast.specs.declared.query.Source.TheShapes
+use Rattle.hv_logic.specs.hv_ast.specs.declared.query.Source.TheFolds.{fold_out-Source, map-Source}
+use Rattle.hv_logic.specs.hv_ast.specs.declared.query.Source.TheVariants as source
+use Rattle.hv_logic.specs.hv_ast.specs.declared.query.Source.TheVariants.{rolls-Table, rolls-Query}
+use Rattle.hv_logic.specs.hv_ast.specs.declared.query.Source.TheViews.{out-Source, roll-Source, out-roll-Source}
+use Rattle.hv_logic.specs.hv_ast.specs.declared.query.Union.{Union}
 use Rattle.hv_logic.specs.declared.catalog.TableInfo.{TableInfo}
 use Rattle.hv_typing.specs.Faults.{and_then}
 use Rattle.hv_typing.specs.declared.opened.Brought.{Brought}

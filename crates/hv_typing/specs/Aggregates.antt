@@ -2,11 +2,11 @@
 -- Source: Hive Language Manual, built-in aggregate functions.
 use Rattle.std.specs.Prelude.{Bool, true, false, ◌||◌, List, Option, None, Some}
 use Rattle.std.specs.List.{list_any}
-use Rattle.hv_ast.specs.declared.expr.Expr.{Expr}
-use Rattle.hv_ast.specs.declared.expr.Expr.TheOpen.{Expr-F}
-use Rattle.hv_ast.specs.declared.expr.Expr.TheFolds.{fold-Expr}
-use Rattle.hv_ast.specs.declared.expr.Operation.{Operation}
-use Rattle.hv_ast.specs.declared.expr.When.{When}
+use Rattle.hv_logic.specs.hv_ast.specs.declared.expr.Expr.{Expr}
+use Rattle.hv_logic.specs.hv_ast.specs.declared.expr.Expr.TheOpen.{Expr-F}
+use Rattle.hv_logic.specs.hv_ast.specs.declared.expr.Expr.TheFolds.{fold-Expr}
+use Rattle.hv_logic.specs.hv_ast.specs.declared.expr.Operation.{Operation}
+use Rattle.hv_logic.specs.hv_ast.specs.declared.expr.When.{When}
 use Rattle.hv_typing.specs.declared.names.Function.{Function}
 use Rattle.hv_typing.specs.declared.names.Function.TheVariants as function
 use Rattle.hv_typing.specs.Calls.{function_named}

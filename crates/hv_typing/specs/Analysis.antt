@@ -3,20 +3,20 @@ use Rattle.std.specs.Prelude.{ℕ, Bool, true, false, not, if◌then◌else◌, 
 use Rattle.std.specs.List.{list_all, list_any}
 use Rattle.hv_base.specs.declared.refusal.Refusal.{Refusal}
 use Rattle.hv_base.specs.declared.refusal.Refusal.TheVariants as refusal
-use Rattle.hv_ast.specs.declared.change.Rows.{Rows}
-use Rattle.hv_ast.specs.declared.change.Rows.TheVariants as rows
-use Rattle.hv_ast.specs.declared.query.From.{From}
-use Rattle.hv_ast.specs.declared.query.Item.{Item}
-use Rattle.hv_ast.specs.declared.query.Item.TheVariants as item
-use Rattle.hv_ast.specs.declared.query.Join.{Join}
-use Rattle.hv_ast.specs.declared.query.Query.{Query}
-use Rattle.hv_ast.specs.declared.query.Select.{Select}
-use Rattle.hv_ast.specs.declared.query.Source.{Source}
-use Rattle.hv_ast.specs.declared.query.Source.TheOpen.{Source-F}
-use Rattle.hv_ast.specs.declared.query.Source.TheFolds.{fold-Source}
-use Rattle.hv_ast.specs.declared.query.Union.{Union}
-use Rattle.hv_ast.specs.declared.statement.Stmt.{Stmt}
-use Rattle.hv_ast.specs.declared.statement.Stmt.TheVariants as stmt
+use Rattle.hv_logic.specs.hv_ast.specs.declared.change.Rows.{Rows}
+use Rattle.hv_logic.specs.hv_ast.specs.declared.change.Rows.TheVariants as rows
+use Rattle.hv_logic.specs.hv_ast.specs.declared.query.From.{From}
+use Rattle.hv_logic.specs.hv_ast.specs.declared.query.Item.{Item}
+use Rattle.hv_logic.specs.hv_ast.specs.declared.query.Item.TheVariants as item
+use Rattle.hv_logic.specs.hv_ast.specs.declared.query.Join.{Join}
+use Rattle.hv_logic.specs.hv_ast.specs.declared.query.Query.{Query}
+use Rattle.hv_logic.specs.hv_ast.specs.declared.query.Select.{Select}
+use Rattle.hv_logic.specs.hv_ast.specs.declared.query.Source.{Source}
+use Rattle.hv_logic.specs.hv_ast.specs.declared.query.Source.TheOpen.{Source-F}
+use Rattle.hv_logic.specs.hv_ast.specs.declared.query.Source.TheFolds.{fold-Source}
+use Rattle.hv_logic.specs.hv_ast.specs.declared.query.Union.{Union}
+use Rattle.hv_logic.specs.hv_ast.specs.declared.statement.Stmt.{Stmt}
+use Rattle.hv_logic.specs.hv_ast.specs.declared.statement.Stmt.TheVariants as stmt
 use Rattle.hv_logic.specs.declared.catalog.TableInfo.{TableInfo}
 use Rattle.hv_typing.specs.Faults.{and_then}
 use Rattle.hv_typing.specs.declared.logic.Logic.{Logic}
@@ -24,12 +24,13 @@ use Rattle.hv_typing.specs.declared.logic.Logic.TheVariants as logic
 use Rattle.hv_typing.specs.Creates.{created}
 use Rattle.hv_typing.specs.Changes.{change_of}
 use Rattle.hv_typing.specs.Merges.{merged}
-use Rattle.hv_ast.specs.declared.change.Merge.{Merge}
+use Rattle.hv_logic.specs.hv_ast.specs.declared.change.Merge.{Merge}
 use Rattle.hv_typing.specs.Subqueries.{selected}
 use Rattle.hv_typing.specs.Drops.{dropped}
 use Rattle.hv_typing.specs.Descriptions.{described}
-use Rattle.hv_typing.specs.Shows.{is_shown, show_analysed}
+use Rattle.hv_typing.specs.Shows.{show_analysed}
 use Rattle.hv_typing.specs.Settings.{set_analysed}
+use Rattle.hv_typing.specs.Asks.{asked}
 
 -- ---- a query without windows, in all its selects and in those of its subqueries
 
@@ -86,16 +87,21 @@ is_form (stmt.Merge merge) = is_windowless_source merge.source
 is_form (stmt.Truncate truncate) = true
 is_form (stmt.CreateTable create) = true
 is_form (stmt.DropTable drop) = true
-is_form (stmt.Show show) = is_shown show
+is_form (stmt.Show show) = true
 is_form (stmt.Describe table) = true
+is_form (stmt.Compact compact) = true
 is_form (stmt.Set setting) = true
 is_form (stmt.AbortTransactions txns) = true
+is_form (stmt.Explain query) = is_windowless query
 is_form _ = false
 
 -- ----
 
 abbrev pub query_analysed : List TableInfo → Query Source → Result Logic Refusal
 query_analysed tables query = and_then (selected tables query) (λ typed. Ok (logic.Query typed))
+
+abbrev pub explain_analysed : List TableInfo → Query Source → Result Logic Refusal
+explain_analysed tables query = and_then (selected tables query) (λ typed. Ok (logic.Explain typed))
 
 abbrev pub change_analysed : List TableInfo → List ℕ → Stmt → Result Logic Refusal
 change_analysed tables name tree = and_then (change_of tables name tree) (λ change. Ok (logic.Change change))
@@ -114,8 +120,10 @@ form_analysed tables (stmt.CreateTable create) = created tables create
 form_analysed tables (stmt.DropTable drop) = dropped tables drop
 form_analysed tables (stmt.Show show) = show_analysed tables show
 form_analysed tables (stmt.Describe table) = described tables table
+form_analysed tables (stmt.Compact compact) = asked tables compact
 form_analysed tables (stmt.Set setting) = set_analysed setting
 form_analysed tables (stmt.AbortTransactions txns) = Ok logic.Nothing
+form_analysed tables (stmt.Explain query) = explain_analysed tables query
 form_analysed tables _ = Err refusal.Syntax
 
 unfoldable pub analysed : List TableInfo → Stmt → Result Logic Refusal

@@ -4,11 +4,11 @@
 use Rattle.std.specs.Prelude.{ℕ, List, slice_get, Option, None, Some, Result, Ok, Err}
 use Rattle.hv_base.specs.declared.refusal.Refusal.{Refusal}
 use Rattle.hv_base.specs.declared.refusal.Refusal.TheVariants as refusal
-use Rattle.hv_ast.specs.declared.change.Insert.{Insert}
-use Rattle.hv_ast.specs.declared.change.Rows.{Rows}
-use Rattle.hv_ast.specs.declared.change.Rows.TheVariants as rows
-use Rattle.hv_ast.specs.declared.statement.Stmt.{Stmt}
-use Rattle.hv_ast.specs.declared.statement.Stmt.TheVariants as stmt
+use Rattle.hv_logic.specs.hv_ast.specs.declared.change.Insert.{Insert}
+use Rattle.hv_logic.specs.hv_ast.specs.declared.change.Rows.{Rows}
+use Rattle.hv_logic.specs.hv_ast.specs.declared.change.Rows.TheVariants as rows
+use Rattle.hv_logic.specs.hv_ast.specs.declared.statement.Stmt.{Stmt}
+use Rattle.hv_logic.specs.hv_ast.specs.declared.statement.Stmt.TheVariants as stmt
 use Rattle.hv_logic.specs.declared.catalog.Column.{Column}
 use Rattle.hv_logic.specs.declared.catalog.Shape.{Shape}
 use Rattle.hv_logic.specs.declared.catalog.TableInfo.{TableInfo}

@@ -1,7 +1,7 @@
 -- A table's columns as its rows have their values, by name and in scope.
 use Rattle.std.specs.Prelude.{ℕ, Bool, List, ◌++◌, map, slice_index_or}
-use Rattle.hv_value.specs.declared.sql_type.SqlType.{SqlType}
-use Rattle.hv_value.specs.declared.sql_type.SqlType.TheVariants as type
+use Rattle.hv_logic.specs.hv_value.specs.declared.sql_type.SqlType.{SqlType}
+use Rattle.hv_logic.specs.hv_value.specs.declared.sql_type.SqlType.TheVariants as type
 use Rattle.hv_logic.specs.declared.catalog.Column.{Column}
 use Rattle.hv_logic.specs.declared.catalog.Shape.{Shape}
 use Rattle.hv_typing.specs.declared.scope.Field.{Field}

@@ -6,12 +6,12 @@ use Rattle.std.specs.Prelude.{ℕ, ◌+◌, Bool, true, false, not, if◌then◌
 use Rattle.std.specs.List.{list_all, list_any}
 use Rattle.hv_base.specs.declared.refusal.Refusal.{Refusal}
 use Rattle.hv_base.specs.declared.refusal.Refusal.TheVariants as refusal
-use Rattle.hv_ast.specs.declared.table.Clustering.{Clustering}
-use Rattle.hv_ast.specs.declared.table.ColumnDefinition.{ColumnDefinition}
-use Rattle.hv_ast.specs.declared.table.CreateTable.{CreateTable}
-use Rattle.hv_ast.specs.declared.table.Property.{Property}
-use Rattle.hv_ast.specs.declared.types.TypeName.{TypeName}
-use Rattle.hv_ast.specs.declared.types.TypeName.TheVariants as type_name
+use Rattle.hv_logic.specs.hv_ast.specs.declared.table.Clustering.{Clustering}
+use Rattle.hv_logic.specs.hv_ast.specs.declared.table.ColumnDefinition.{ColumnDefinition}
+use Rattle.hv_logic.specs.hv_ast.specs.declared.table.CreateTable.{CreateTable}
+use Rattle.hv_logic.specs.hv_ast.specs.declared.table.Property.{Property}
+use Rattle.hv_logic.specs.hv_ast.specs.declared.types.TypeName.{TypeName}
+use Rattle.hv_logic.specs.hv_ast.specs.declared.types.TypeName.TheVariants as type_name
 use Rattle.hv_logic.specs.declared.catalog.TableInfo.{TableInfo}
 use Rattle.hv_logic.specs.Shapes.{is_column, bucket_names, bucket_place, shape_of}
 use Rattle.hv_typing.specs.Scopes.{same_name}

@@ -6,13 +6,13 @@ use Rattle.std.specs.Prelude.{ℕ, ◌==◌, Bool, true, false, if◌then◌else
 use Rattle.std.specs.List.{list_all}
 use Rattle.hv_base.specs.declared.refusal.Refusal.{Refusal}
 use Rattle.hv_base.specs.declared.refusal.Refusal.TheVariants as refusal
-use Rattle.hv_ast.specs.declared.change.Insert.{Insert}
-use Rattle.hv_ast.specs.declared.change.PartitionItem.{PartitionItem}
-use Rattle.hv_ast.specs.declared.expr.Expr.{Expr}
-use Rattle.hv_value.specs.declared.sql_type.SqlType.{SqlType}
-use Rattle.hv_value.specs.declared.sql_type.SqlType.TheVariants as type
-use Rattle.hv_value.specs.declared.value.Value.TheVariants as value
-use Rattle.hv_value.specs.Conversion.{is_convertible}
+use Rattle.hv_logic.specs.hv_ast.specs.declared.change.Insert.{Insert}
+use Rattle.hv_logic.specs.hv_ast.specs.declared.change.PartitionItem.{PartitionItem}
+use Rattle.hv_logic.specs.hv_ast.specs.declared.expr.Expr.{Expr}
+use Rattle.hv_logic.specs.hv_value.specs.declared.sql_type.SqlType.{SqlType}
+use Rattle.hv_logic.specs.hv_value.specs.declared.sql_type.SqlType.TheVariants as type
+use Rattle.hv_logic.specs.hv_value.specs.declared.value.Value.TheVariants as value
+use Rattle.hv_logic.specs.hv_value.specs.Conversion.{is_convertible}
 use Rattle.hv_expr.specs.declared.tree.TypedExpr.{TypedExpr}
 use Rattle.hv_expr.specs.declared.tree.TypedExpr.TheVariants as tree
 use Rattle.hv_logic.specs.declared.catalog.Column.{Column}

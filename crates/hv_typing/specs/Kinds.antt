@@ -1,10 +1,10 @@
 -- Types of expressions: one type of several, and what the places of functions ask for.
 -- Source: Hive Language Manual, Types and UDFs; what it leaves open is this project's profile.
 use Rattle.std.specs.Prelude.{Bool, true, false, Option, None, Some, option_map}
-use Rattle.hv_value.specs.declared.sql_type.Elem.{Elem}
-use Rattle.hv_value.specs.declared.sql_type.Elem.TheVariants as elem
-use Rattle.hv_value.specs.declared.sql_type.SqlType.{SqlType}
-use Rattle.hv_value.specs.declared.sql_type.SqlType.TheVariants as type
+use Rattle.hv_logic.specs.hv_value.specs.declared.sql_type.Elem.{Elem}
+use Rattle.hv_logic.specs.hv_value.specs.declared.sql_type.Elem.TheVariants as elem
+use Rattle.hv_logic.specs.hv_value.specs.declared.sql_type.SqlType.{SqlType}
+use Rattle.hv_logic.specs.hv_value.specs.declared.sql_type.SqlType.TheVariants as type
 use Rattle.hv_expr.specs.declared.tree.TypedExpr.{TypedExpr}
 use Rattle.hv_expr.specs.declared.tree.TypedExpr.TheOpen.{TypedExpr-F}
 use Rattle.hv_expr.specs.declared.tree.TypedExpr.TheViews.{out-TypedExpr}

@@ -1,3 +1,5 @@
+pub use Rattle.hv_expr as hv_expr
+pub use Rattle.hv_logic as hv_logic
 pub mod Faults
 pub mod Scopes
 pub mod Kinds
@@ -24,8 +26,11 @@ pub mod Drops
 pub mod Descriptions
 pub mod Shows
 pub mod Settings
+pub mod Asks
 pub mod Analysis
 pub mod Joins
 pub mod Grouped
 pub mod Order
 pub mod Rows
+pub mod Stages
+pub mod StageLine

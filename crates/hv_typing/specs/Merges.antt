@@ -7,12 +7,12 @@ use Rattle.std.specs.Prelude.{ℕ, Bool, true, false, if◌then◌else◌, ◌&&
 use Rattle.std.specs.List.{list_any}
 use Rattle.hv_base.specs.declared.refusal.Refusal.{Refusal}
 use Rattle.hv_base.specs.declared.refusal.Refusal.TheVariants as refusal
-use Rattle.hv_ast.specs.declared.expr.Expr.{Expr}
-use Rattle.hv_ast.specs.declared.change.Assignment.{Assignment}
-use Rattle.hv_ast.specs.declared.change.Merge.{Merge}
-use Rattle.hv_ast.specs.declared.change.MergeAction.{MergeAction}
-use Rattle.hv_ast.specs.declared.change.MergeAction.TheVariants as written
-use Rattle.hv_ast.specs.declared.change.MergeClause.{MergeClause}
+use Rattle.hv_logic.specs.hv_ast.specs.declared.expr.Expr.{Expr}
+use Rattle.hv_logic.specs.hv_ast.specs.declared.change.Assignment.{Assignment}
+use Rattle.hv_logic.specs.hv_ast.specs.declared.change.Merge.{Merge}
+use Rattle.hv_logic.specs.hv_ast.specs.declared.change.MergeAction.{MergeAction}
+use Rattle.hv_logic.specs.hv_ast.specs.declared.change.MergeAction.TheVariants as written
+use Rattle.hv_logic.specs.hv_ast.specs.declared.change.MergeClause.{MergeClause}
 use Rattle.hv_expr.specs.declared.tree.TypedExpr.{TypedExpr}
 use Rattle.hv_logic.specs.declared.catalog.Column.{Column}
 use Rattle.hv_logic.specs.declared.catalog.Shape.{Shape}

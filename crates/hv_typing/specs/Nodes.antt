@@ -4,20 +4,20 @@ use Rattle.std.specs.Prelude.{ℤ, Bool, if◌then◌else◌, ◌&&◌, is_some,
 use Rattle.std.specs.List.{list_all}
 use Rattle.hv_base.specs.declared.refusal.Refusal.{Refusal}
 use Rattle.hv_base.specs.declared.refusal.Refusal.TheVariants as refusal
-use Rattle.hv_ast.specs.declared.expr.Arithmetic.{Arithmetic}
-use Rattle.hv_ast.specs.declared.expr.Arithmetic.TheVariants as written
-use Rattle.hv_ast.specs.declared.expr.Binary.{Binary}
-use Rattle.hv_ast.specs.declared.expr.Binary.TheVariants as binary
-use Rattle.hv_ast.specs.declared.expr.Literal.{Literal}
-use Rattle.hv_ast.specs.declared.expr.Literal.TheVariants as literal
-use Rattle.hv_ast.specs.declared.expr.Unary.{Unary}
-use Rattle.hv_ast.specs.declared.expr.Unary.TheVariants as unary
-use Rattle.hv_value.specs.declared.sql_type.Elem.{Elem}
-use Rattle.hv_value.specs.declared.sql_type.SqlType.{SqlType}
-use Rattle.hv_value.specs.declared.sql_type.SqlType.TheVariants as type
-use Rattle.hv_value.specs.declared.value.Value.TheVariants as value
-use Rattle.hv_value.specs.Conversion.{is_convertible}
-use Rattle.hv_value.specs.Dates.{day_of_text}
+use Rattle.hv_logic.specs.hv_ast.specs.declared.expr.Arithmetic.{Arithmetic}
+use Rattle.hv_logic.specs.hv_ast.specs.declared.expr.Arithmetic.TheVariants as written
+use Rattle.hv_logic.specs.hv_ast.specs.declared.expr.Binary.{Binary}
+use Rattle.hv_logic.specs.hv_ast.specs.declared.expr.Binary.TheVariants as binary
+use Rattle.hv_logic.specs.hv_ast.specs.declared.expr.Literal.{Literal}
+use Rattle.hv_logic.specs.hv_ast.specs.declared.expr.Literal.TheVariants as literal
+use Rattle.hv_logic.specs.hv_ast.specs.declared.expr.Unary.{Unary}
+use Rattle.hv_logic.specs.hv_ast.specs.declared.expr.Unary.TheVariants as unary
+use Rattle.hv_logic.specs.hv_value.specs.declared.sql_type.Elem.{Elem}
+use Rattle.hv_logic.specs.hv_value.specs.declared.sql_type.SqlType.{SqlType}
+use Rattle.hv_logic.specs.hv_value.specs.declared.sql_type.SqlType.TheVariants as type
+use Rattle.hv_logic.specs.hv_value.specs.declared.value.Value.TheVariants as value
+use Rattle.hv_logic.specs.hv_value.specs.Conversion.{is_convertible}
+use Rattle.hv_logic.specs.hv_value.specs.Dates.{day_of_text}
 use Rattle.hv_expr.specs.declared.function.Aggregate.{Aggregate}
 use Rattle.hv_expr.specs.declared.function.Aggregate.TheVariants as aggregate
 use Rattle.hv_expr.specs.declared.function.Arithmetic.{Arithmetic as TypedArithmetic}

@@ -4,10 +4,10 @@ use Rattle.std.specs.Prelude.{if◌then◌else◌, ℕ, Bool, List, [], ◌∷�
 use Rattle.std.specs.declared.cmp.Ordering.{Ordering}
 use Rattle.std.specs.Ordering.{ordering_then, flip_args, on}
 use Rattle.hv_base.specs.Sorting.{sorted_by}
-use Rattle.hv_value.specs.declared.value.Value.{Value}
-use Rattle.hv_value.specs.declared.value.Value.TheVariants.{Null}
-use Rattle.hv_value.specs.declared.row.Row.{Row}
-use Rattle.hv_value.specs.Order.{value_cmp, row_cmp}
+use Rattle.hv_logic.specs.hv_value.specs.declared.value.Value.{Value}
+use Rattle.hv_logic.specs.hv_value.specs.declared.value.Value.TheVariants.{Null}
+use Rattle.hv_logic.specs.hv_value.specs.declared.row.Row.{Row}
+use Rattle.hv_logic.specs.hv_value.specs.Order.{value_cmp, row_cmp}
 use Rattle.hv_typing.specs.declared.tree.SortKey.{SortKey}
 
 -- ---- the keys

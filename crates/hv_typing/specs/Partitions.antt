@@ -4,11 +4,11 @@
 use Rattle.std.specs.Prelude.{ℕ, Bool, true, not, if◌then◌else◌, ◌&&◌, is_some, List, [], ◌∷◌, ◌++◌, position, Option, None, Some, Result, Ok, Err}
 use Rattle.hv_base.specs.declared.refusal.Refusal.{Refusal}
 use Rattle.hv_base.specs.declared.refusal.Refusal.TheVariants as refusal
-use Rattle.hv_ast.specs.declared.change.PartitionItem.{PartitionItem}
-use Rattle.hv_ast.specs.declared.expr.Expr.{Expr}
-use Rattle.hv_value.specs.declared.sql_type.SqlType.{SqlType}
-use Rattle.hv_value.specs.declared.sql_type.SqlType.TheVariants as type
-use Rattle.hv_value.specs.Conversion.{is_convertible}
+use Rattle.hv_logic.specs.hv_ast.specs.declared.change.PartitionItem.{PartitionItem}
+use Rattle.hv_logic.specs.hv_ast.specs.declared.expr.Expr.{Expr}
+use Rattle.hv_logic.specs.hv_value.specs.declared.sql_type.SqlType.{SqlType}
+use Rattle.hv_logic.specs.hv_value.specs.declared.sql_type.SqlType.TheVariants as type
+use Rattle.hv_logic.specs.hv_value.specs.Conversion.{is_convertible}
 use Rattle.hv_expr.specs.declared.function.Many.TheVariants as many
 use Rattle.hv_expr.specs.declared.function.Two.TheVariants as two
 use Rattle.hv_expr.specs.declared.tree.TypedExpr.{TypedExpr}

@@ -5,16 +5,16 @@ use Rattle.std.specs.Prelude.{ℕ, zero, suc, ◌+◌, ◌==◌, Bool, true, fal
 use Rattle.std.specs.List.{list_any}
 use Rattle.hv_base.specs.declared.refusal.Refusal.{Refusal}
 use Rattle.hv_base.specs.declared.refusal.Refusal.TheVariants as refusal
-use Rattle.hv_ast.specs.declared.expr.Expr.{Expr}
-use Rattle.hv_ast.specs.declared.expr.Expr.TheVariants as expr
-use Rattle.hv_ast.specs.declared.expr.Literal.{Literal}
-use Rattle.hv_ast.specs.declared.expr.Literal.TheVariants as literal
-use Rattle.hv_ast.specs.declared.query.Key.{Key}
-use Rattle.hv_ast.specs.declared.query.Query.{Query}
-use Rattle.hv_ast.specs.declared.query.Select.{Select}
-use Rattle.hv_ast.specs.declared.query.Union.{Union}
-use Rattle.hv_value.specs.declared.sql_type.SqlType.{SqlType}
-use Rattle.hv_value.specs.declared.sql_type.SqlType.TheVariants as type
+use Rattle.hv_logic.specs.hv_ast.specs.declared.expr.Expr.{Expr}
+use Rattle.hv_logic.specs.hv_ast.specs.declared.expr.Expr.TheVariants as expr
+use Rattle.hv_logic.specs.hv_ast.specs.declared.expr.Literal.{Literal}
+use Rattle.hv_logic.specs.hv_ast.specs.declared.expr.Literal.TheVariants as literal
+use Rattle.hv_logic.specs.hv_ast.specs.declared.query.Key.{Key}
+use Rattle.hv_logic.specs.hv_ast.specs.declared.query.Query.{Query}
+use Rattle.hv_logic.specs.hv_ast.specs.declared.query.Select.{Select}
+use Rattle.hv_logic.specs.hv_ast.specs.declared.query.Union.{Union}
+use Rattle.hv_logic.specs.hv_value.specs.declared.sql_type.SqlType.{SqlType}
+use Rattle.hv_logic.specs.hv_value.specs.declared.sql_type.SqlType.TheVariants as type
 use Rattle.hv_expr.specs.declared.tree.TypedExpr.{TypedExpr}
 use Rattle.hv_typing.specs.declared.tree.OutputColumn.{OutputColumn}
 use Rattle.hv_typing.specs.declared.tree.SortKey.{SortKey}

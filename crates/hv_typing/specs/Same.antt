@@ -3,9 +3,9 @@
 -- Source: Hive Language Manual, GROUP BY and Sort By; that typed trees are compared is this project's profile.
 use Rattle.std.specs.Prelude.{ℕ, Bool, true, false, not, ◌&&◌, List, [], ◌∷◌, Option, None, Some, nat_eq}
 use Rattle.std.specs.Ordering.{eq_by_cmp}
-use Rattle.hv_value.specs.declared.sql_type.SqlType.{SqlType}
-use Rattle.hv_value.specs.declared.value.Value.{Value}
-use Rattle.hv_value.specs.Order.{value_cmp}
+use Rattle.hv_logic.specs.hv_value.specs.declared.sql_type.SqlType.{SqlType}
+use Rattle.hv_logic.specs.hv_value.specs.declared.value.Value.{Value}
+use Rattle.hv_logic.specs.hv_value.specs.Order.{value_cmp}
 use Rattle.hv_expr.specs.declared.function.Aggregate.{Aggregate}
 use Rattle.hv_expr.specs.declared.function.Many.{Many}
 use Rattle.hv_expr.specs.declared.function.One.{One}

@@ -7,11 +7,11 @@ use Rattle.std.specs.Fmt.{decimal}
 use Rattle.std.specs.List.{list_all, list_any}
 use Rattle.hv_base.specs.declared.refusal.Refusal.{Refusal}
 use Rattle.hv_base.specs.declared.refusal.Refusal.TheVariants as refusal
-use Rattle.hv_ast.specs.declared.expr.Expr.{Expr}
-use Rattle.hv_ast.specs.declared.expr.Expr.TheVariants as expr
-use Rattle.hv_ast.specs.declared.query.Item.{Item}
-use Rattle.hv_ast.specs.declared.query.Item.TheVariants as item
-use Rattle.hv_ast.specs.declared.query.Select.{Select}
+use Rattle.hv_logic.specs.hv_ast.specs.declared.expr.Expr.{Expr}
+use Rattle.hv_logic.specs.hv_ast.specs.declared.expr.Expr.TheVariants as expr
+use Rattle.hv_logic.specs.hv_ast.specs.declared.query.Item.{Item}
+use Rattle.hv_logic.specs.hv_ast.specs.declared.query.Item.TheVariants as item
+use Rattle.hv_logic.specs.hv_ast.specs.declared.query.Select.{Select}
 use Rattle.hv_expr.specs.declared.tree.TypedExpr.{TypedExpr}
 use Rattle.hv_expr.specs.declared.tree.TypedExpr.TheVariants as tree
 use Rattle.hv_typing.specs.declared.tree.Grouping.{Grouping}

@@ -6,7 +6,7 @@ use Rattle.std.specs.Prelude.{ℕ, ◌+◌, ◌==◌, ◌&&◌, ◌||◌, Bool, 
 use Rattle.std.specs.Str.{all_ascii_digits}
 use Rattle.hv_base.specs.declared.refusal.Refusal.{Refusal}
 use Rattle.hv_base.specs.declared.refusal.Refusal.TheVariants as refusal
-use Rattle.hv_ast.specs.declared.statement.Setting.{Setting}
+use Rattle.hv_logic.specs.hv_ast.specs.declared.statement.Setting.{Setting}
 use Rattle.hv_typing.specs.Scopes.{same_name}
 use Rattle.hv_typing.specs.declared.logic.Logic.{Logic}
 use Rattle.hv_typing.specs.declared.logic.Logic.TheVariants as logic

@@ -1,22 +1,17 @@
 -- SHOW: PARTITIONS is of the live table of that name, which has partition columns, or NoTable, or BadCount; the other forms have no
--- fault. What is listed is said of the whole book and not of the tables alone, so it stands with the history. SHOW COMPACTIONS
--- isn't built. Source: Hive Language Manual, DDL (Show Tables, Show Partitions, Show Transactions, Show Locks). That a table
+-- fault. What is listed is said of the whole book and not of the tables alone, so it stands with the history.
+-- Source: Hive Language Manual, DDL (Show Tables, Show Partitions, Show Transactions, Show Locks, Show Compactions). That a table
 -- without partition columns is refused is Hive's; the number of the refusal is this project's profile.
-use Rattle.std.specs.Prelude.{ℕ, Bool, true, false, if◌then◌else◌, List, slice_get, Option, None, Some, Result, Ok, Err}
+use Rattle.std.specs.Prelude.{ℕ, if◌then◌else◌, List, slice_get, Option, None, Some, Result, Ok, Err}
 use Rattle.hv_base.specs.declared.refusal.Refusal.{Refusal}
 use Rattle.hv_base.specs.declared.refusal.Refusal.TheVariants as refusal
-use Rattle.hv_ast.specs.declared.statement.Show.{Show}
-use Rattle.hv_ast.specs.declared.statement.Show.TheVariants as show
+use Rattle.hv_logic.specs.hv_ast.specs.declared.statement.Show.{Show}
+use Rattle.hv_logic.specs.hv_ast.specs.declared.statement.Show.TheVariants as show
 use Rattle.hv_logic.specs.declared.catalog.TableInfo.{TableInfo}
 use Rattle.hv_typing.specs.Inserts.{is_empty}
 use Rattle.hv_typing.specs.declared.logic.Logic.{Logic}
 use Rattle.hv_typing.specs.declared.logic.Logic.TheVariants as logic
 use Rattle.hv_typing.specs.Creates.{place_of}
-
--- the forms that are built
-abbrev pub is_shown : Show → Bool
-is_shown show.Compactions = false
-is_shown _ = true
 
 abbrev pub partitions_as : Option TableInfo → Result Logic Refusal
 partitions_as None = Err refusal.NoTable

@@ -5,16 +5,16 @@ use Rattle.std.specs.Prelude.{ℕ, Bool, true, false, if◌then◌else◌, ◌||
 use Rattle.std.specs.List.{list_any}
 use Rattle.hv_base.specs.declared.refusal.Refusal.{Refusal}
 use Rattle.hv_base.specs.declared.refusal.Refusal.TheVariants as refusal
-use Rattle.hv_ast.specs.declared.expr.Expr.{Expr}
-use Rattle.hv_ast.specs.declared.query.Explode.{Explode}
-use Rattle.hv_ast.specs.declared.query.Explode.TheVariants as explode
-use Rattle.hv_ast.specs.declared.query.JoinKind.{JoinKind as WrittenKind}
-use Rattle.hv_ast.specs.declared.query.JoinKind.TheVariants as written
-use Rattle.hv_ast.specs.declared.query.From.{From}
-use Rattle.hv_ast.specs.declared.query.Join.{Join}
-use Rattle.hv_ast.specs.declared.query.Lateral.{Lateral}
-use Rattle.hv_value.specs.declared.sql_type.SqlType.{SqlType}
-use Rattle.hv_value.specs.declared.sql_type.SqlType.TheVariants as type
+use Rattle.hv_logic.specs.hv_ast.specs.declared.expr.Expr.{Expr}
+use Rattle.hv_logic.specs.hv_ast.specs.declared.query.Explode.{Explode}
+use Rattle.hv_logic.specs.hv_ast.specs.declared.query.Explode.TheVariants as explode
+use Rattle.hv_logic.specs.hv_ast.specs.declared.query.JoinKind.{JoinKind as WrittenKind}
+use Rattle.hv_logic.specs.hv_ast.specs.declared.query.JoinKind.TheVariants as written
+use Rattle.hv_logic.specs.hv_ast.specs.declared.query.From.{From}
+use Rattle.hv_logic.specs.hv_ast.specs.declared.query.Join.{Join}
+use Rattle.hv_logic.specs.hv_ast.specs.declared.query.Lateral.{Lateral}
+use Rattle.hv_logic.specs.hv_value.specs.declared.sql_type.SqlType.{SqlType}
+use Rattle.hv_logic.specs.hv_value.specs.declared.sql_type.SqlType.TheVariants as type
 use Rattle.hv_expr.specs.declared.tree.TypedExpr.{TypedExpr}
 use Rattle.hv_typing.specs.declared.tree.JoinKind.{JoinKind}
 use Rattle.hv_typing.specs.declared.tree.JoinKind.TheVariants as kind

@@ -4,10 +4,10 @@
 use Rattle.std.specs.Prelude.{ℕ, List, map, slice_get, Option, None, Some, Result, Ok, Err}
 use Rattle.hv_base.specs.declared.refusal.Refusal.{Refusal}
 use Rattle.hv_base.specs.declared.refusal.Refusal.TheVariants as refusal
-use Rattle.hv_ast.specs.declared.query.Query.{Query}
-use Rattle.hv_ast.specs.declared.query.Source.{Source}
-use Rattle.hv_ast.specs.declared.query.Source.TheOpen.{Source-F}
-use Rattle.hv_ast.specs.declared.query.Source.TheFolds.{fold-Source}
+use Rattle.hv_logic.specs.hv_ast.specs.declared.query.Query.{Query}
+use Rattle.hv_logic.specs.hv_ast.specs.declared.query.Source.{Source}
+use Rattle.hv_logic.specs.hv_ast.specs.declared.query.Source.TheOpen.{Source-F}
+use Rattle.hv_logic.specs.hv_ast.specs.declared.query.Source.TheFolds.{fold-Source}
 use Rattle.hv_logic.specs.declared.catalog.Column.{Column}
 use Rattle.hv_logic.specs.declared.catalog.TableInfo.{TableInfo}
 use Rattle.hv_typing.specs.declared.tree.TypedQuery.{TypedQuery}

@@ -8,8 +8,8 @@ use Rattle.std.specs.Prelude.{ℕ, Bool, not, if◌then◌else◌, List, [], ◌
 use Rattle.std.specs.List.{list_all, list_any}
 use Rattle.hv_base.specs.declared.refusal.Refusal.{Refusal}
 use Rattle.hv_base.specs.declared.refusal.Refusal.TheVariants as refusal
-use Rattle.hv_ast.specs.declared.change.PartitionItem.{PartitionItem}
-use Rattle.hv_ast.specs.declared.expr.Expr.{Expr}
+use Rattle.hv_logic.specs.hv_ast.specs.declared.change.PartitionItem.{PartitionItem}
+use Rattle.hv_logic.specs.hv_ast.specs.declared.expr.Expr.{Expr}
 use Rattle.hv_expr.specs.declared.tree.TypedExpr.{TypedExpr}
 use Rattle.hv_logic.specs.declared.catalog.Column.{Column}
 use Rattle.hv_logic.specs.declared.catalog.Shape.{Shape}

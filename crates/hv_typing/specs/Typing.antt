@@ -3,11 +3,11 @@
 -- there (NotGrouped). Source: Hive Language Manual, Select and UDFs; the order of faults is this project's profile.
 use Rattle.std.specs.Prelude.{ℕ, Bool, true, false, List, Option, None, Some, Result, Ok, Err}
 use Rattle.hv_base.specs.declared.refusal.Refusal.{Refusal}
-use Rattle.hv_ast.specs.declared.expr.Expr.{Expr}
-use Rattle.hv_ast.specs.declared.expr.Expr.TheOpen.{Expr-F}
-use Rattle.hv_ast.specs.declared.expr.Expr.TheFolds.{fold-Expr}
-use Rattle.hv_ast.specs.declared.expr.Operation.{Operation}
-use Rattle.hv_ast.specs.declared.expr.When.{When}
+use Rattle.hv_logic.specs.hv_ast.specs.declared.expr.Expr.{Expr}
+use Rattle.hv_logic.specs.hv_ast.specs.declared.expr.Expr.TheOpen.{Expr-F}
+use Rattle.hv_logic.specs.hv_ast.specs.declared.expr.Expr.TheFolds.{fold-Expr}
+use Rattle.hv_logic.specs.hv_ast.specs.declared.expr.Operation.{Operation}
+use Rattle.hv_logic.specs.hv_ast.specs.declared.expr.When.{When}
 use Rattle.hv_logic.specs.Shapes.{type_of}
 use Rattle.hv_expr.specs.declared.function.Many.TheVariants as many
 use Rattle.hv_expr.specs.declared.function.Three.{Three}

@@ -6,13 +6,13 @@ use Rattle.std.specs.Prelude.{ℕ, ◌+◌, ◌==◌, Bool, if◌then◌else◌,
 use Rattle.std.specs.List.{list_any}
 use Rattle.hv_base.specs.declared.refusal.Refusal.{Refusal}
 use Rattle.hv_base.specs.declared.refusal.Refusal.TheVariants as refusal
-use Rattle.hv_ast.specs.declared.expr.Expr.{Expr}
-use Rattle.hv_ast.specs.declared.change.Assignment.{Assignment}
-use Rattle.hv_ast.specs.declared.change.Delete.{Delete}
-use Rattle.hv_ast.specs.declared.change.PartitionItem.{PartitionItem}
-use Rattle.hv_ast.specs.declared.change.Truncate.{Truncate}
-use Rattle.hv_ast.specs.declared.change.Update.{Update}
-use Rattle.hv_value.specs.declared.sql_type.SqlType.{SqlType}
+use Rattle.hv_logic.specs.hv_ast.specs.declared.expr.Expr.{Expr}
+use Rattle.hv_logic.specs.hv_ast.specs.declared.change.Assignment.{Assignment}
+use Rattle.hv_logic.specs.hv_ast.specs.declared.change.Delete.{Delete}
+use Rattle.hv_logic.specs.hv_ast.specs.declared.change.PartitionItem.{PartitionItem}
+use Rattle.hv_logic.specs.hv_ast.specs.declared.change.Truncate.{Truncate}
+use Rattle.hv_logic.specs.hv_ast.specs.declared.change.Update.{Update}
+use Rattle.hv_logic.specs.hv_value.specs.declared.sql_type.SqlType.{SqlType}
 use Rattle.hv_expr.specs.declared.tree.TypedExpr.{TypedExpr}
 use Rattle.hv_expr.specs.declared.tree.TypedExpr.TheVariants as tree
 use Rattle.hv_logic.specs.declared.catalog.Column.{Column}

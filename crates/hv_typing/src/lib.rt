@@ -4,6 +4,10 @@
 //! and hv_analysis.
 #![tactic(auto)]
 
+pub use hv_expr;
+pub use hv_logic;
+
+mod asks;
 mod change;
 mod fault;
 mod kinds;
@@ -14,8 +18,10 @@ mod names;
 mod opened;
 mod places;
 mod scope;
+mod stages;
 mod tree;
 
+pub use asks::TypedAsk;
 pub use change::{Deletes, Origin, TypedChange};
 pub use fault::TypeFault;
 pub use kinds::Meeting;
@@ -26,6 +32,7 @@ pub use names::Function;
 pub use opened::{Brought, Opened, Sources};
 pub use places::{Gives, Pair, Place};
 pub use scope::{Field, Over};
+pub use stages::StageKind;
 pub use tree::{
     Grouping, JoinKind, OutputColumn, SortKey, TypedFrom, TypedJoin, TypedLateral, TypedQuery,
     TypedSelect, TypedSource, TypedUnion,

@@ -1,3 +1,4 @@
+use crate::asks::TypedAsk;
 use crate::change::TypedChange;
 use crate::merge::TypedMerge;
 use crate::tree::TypedQuery;
@@ -21,4 +22,8 @@ pub enum Logic {
     Nothing,
     /// DESCRIBE: the table's columns, those of its partitions last.
     Describe(List<Column>),
+    /// EXPLAIN FORMATTED: the query whose stages are named. No row of it is made.
+    Explain(TypedQuery),
+    /// ALTER TABLE COMPACT.
+    Ask(TypedAsk),
 }

@@ -1,4 +1,4 @@
-use hv_value::SqlType;
+use hv_logic::hv_value::SqlType;
 
 /// What a place of a function asks of its operand.
 #[derive(Clone, Copy)]

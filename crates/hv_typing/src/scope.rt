@@ -1,5 +1,5 @@
 use hv_base::Text;
-use hv_value::SqlType;
+use hv_logic::hv_value::SqlType;
 
 /// A column in scope, with the name of its source. Its place among the fields is that of its value
 /// in a row.

@@ -3,7 +3,7 @@
 
 use hv_base::{Boxed, List, Text};
 use hv_expr::TypedExpr;
-use hv_value::SqlType;
+use hv_logic::hv_value::SqlType;
 
 /// A comma and CROSS JOIN are inner joins without a condition.
 #[derive(Clone, Copy)]

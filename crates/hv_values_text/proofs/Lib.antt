@@ -6,3 +6,4 @@ pub mod Known
 pub mod Quotes
 pub mod Spelled
 pub mod Turns
+pub mod Without

@@ -1,5 +1,6 @@
 pub mod Fronts
 pub mod Laws
 pub mod Parts
+pub mod Bare
 pub mod Passing
 pub mod Ways

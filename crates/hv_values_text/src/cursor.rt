@@ -1,6 +1,7 @@
 //! What is left of a text, from the left.
 
-ghost use Rattle.std.specs.Prelude.{◌≡◌, ◌==◌, IfOk, length, slice_index};
+ghost use Rattle.std.specs.Prelude.{◌≡◌, ◌==◌, IfOk, OnOk, length, slice_index};
+ghost use Rattle.hv_values_text.specs.Bare.{HasQuoted};
 ghost use Rattle.hv_values_text.specs.Fronts as fronts;
 ghost use Rattle.hv_values_text.specs.Fronts.{IsMark, IsSingle, IsWord, IsName, IsNumber, IsQuoted};
 ghost use Rattle.hv_values_text.specs.Passing.{Passes};
@@ -8,7 +9,8 @@ ghost use Rattle.hv_values_text.specs.Ways as ways;
 
 use crate::fault::Unread;
 use crate::fronts::{
-    after, after_spaces, first_byte, literal_of, plain_length, small_value, text_of,
+    after, after_spaces, first_byte, let_go, literal_of, plain_length, small_value, test_text,
+    text_of,
 };
 use hv_ast::Literal;
 use hv_base::Text;
@@ -234,5 +236,32 @@ impl<'a> Cursor<'a> {
         let text = text_of(content)?;
         self.rest = after(last, 1);
         Ok(text)
+    }
+
+    /// Passes over a text in quotes, whatever stands between them.
+    fn skim_escaped(&mut self, alloc: Global) -> Result<(), Unread>
+        ensures front { OnOk result (HasQuoted self.old self.new) }
+        ensures known { Passes (ways.quoted self.old) result self.new }
+    {
+        let content = self.escaped(alloc)?;
+        let_go(content);
+        Ok(())
+    }
+
+    /// Passes over a text in quotes. One without a backslash takes no memory.
+    pub fn skim_quoted(&mut self, alloc: Global) -> Result<(), Unread>
+        ensures front { OnOk result (HasQuoted self.old self.new) }
+        ensures known { Passes (ways.quoted self.old) result self.new }
+    {
+        let quote = self.next();
+        let inner = self.inner();
+        let length = plain_length(quote, inner);
+        let last = after(inner, length);
+        if !is_quote(quote) || first_byte(last) != quote {
+            return self.skim_escaped(alloc);
+        }
+        test_text(&inner[..length])?;
+        self.rest = after(last, 1);
+        Ok(())
     }
 }

@@ -70,6 +70,19 @@ pub fn text_of(content: Vec<u8>) -> Result<Text, Unread>
     }
 }
 
+/// Lets go of a value, in a function without other paths.
+pub fn let_go<T: Drop>(_value: T) {}
+
+/// Whether these bytes are UTF-8.
+pub fn test_text(content: &[u8]) -> Result<(), Unread>
+    ensures known { Knows (is_utf8 content.now) result }
+{
+    match str::from_utf8(content) {
+        Ok(_) => Ok(()),
+        Err(_) => Err(Unread::Unknown),
+    }
+}
+
 /// The number that the digits write, where it is no more than `i64::MAX`.
 pub fn small_value(digits: &[u8]) -> Result<i64, Unread>
     requires { AllDigits 10 digits.now }

@@ -19,7 +19,7 @@ use std::alloc::Global;
 
 /// `INTO [TABLE]`
 #[tactic(auto, unfolding(crate::specs::Ways::into))]
-fn into(cursor: &mut Cursor<'_>) -> Result<(), Unread>
+pub fn into(cursor: &mut Cursor<'_>) -> Result<(), Unread>
     ensures part { OnOk result
         (IsPart 1 (statement.overwrite flat flat_query) false cursor.old cursor.new) }
     ensures known { Passes (ways.into cursor.old) result cursor.new }

@@ -10,7 +10,9 @@ mod laws;
 mod literals;
 mod partitions;
 mod rows;
+mod skims;
 
 pub use fault::Unread;
 pub use insert::read_values;
 pub use laws::some_are_known;
+pub use skims::skim_values;

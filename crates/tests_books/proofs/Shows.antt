@@ -1,5 +1,5 @@
 -- What SHOW lists rests on transactions and tables, and comes of one transaction after another.
-use Rattle.std.proofs.Common.{◌≡◌, ℕ, zero, suc, ◌+◌, ◌<◌, Option, Some, None, List, ◌++◌, length, get_or, drop, refl, sym, ap, ◌∙◌, arith}
+use Rattle.std.proofs.Common.{◌≡◌, ℕ, zero, suc, ◌+◌, ◌<◌, Option, Some, None, List, [], ◌++◌, length, get_or, drop, refl, sym, ap, ◌∙◌, arith}
 use Rattle.std.specs.List.{slice_get}
 use Rattle.std.proofs.lemmas.Option.{slice_get_read}
 use Rattle.hv_ast.specs.declared.statement.Show.{Show}
@@ -10,8 +10,9 @@ use Rattle.hv_value.specs.declared.row.Row.{Row}
 use Rattle.hv_meaning.specs.Meaning.{meaning_of}
 use Rattle.hv_history.specs.declared.shown.Shown.{Shown}
 use Rattle.hv_history.specs.declared.state.Transaction.{Transaction}
-use Rattle.hv_history.specs.State.{State, numbered, seen_tables, means, meaning_in}
-use Rattle.hv_history.specs.Shown.{each_from, filled, listed_by, show_listed, show_of}
+use Rattle.hv_history.specs.Standing.{first_open}
+use Rattle.hv_history.specs.State.{State, Job, numbered, seen_tables, means, meaning_in}
+use Rattle.hv_history.specs.Shown.{each_from, filled, job_names, job_rows, listed_by, show_listed, show_of, shows}
 use Rattle.hv_showing.proofs.Each.{each-next}
 use Rattle.hv_showing.specs.Fronts.{rows_at}
 use Rattle.tests_books.specs.Replay.{state_at}
@@ -30,9 +31,9 @@ one-more f ts at t rows next all within is put before =
     let of : rows_at f (at + 1) (numbered ts (at + 1)) ≡ f (at + 1) t = ap (rows_at f (at + 1)) (there ts (at + 1) at t refl within is) in
     each-next f ts at rows next all (put ∙ ap (λ (ys : List Row). rows ++ ys) (sym of)) before
 
--- ---- whatever else the state has
+-- ---- whatever else the state has, but for jobs
 
-module _ (state : State) (place : ℕ) where
+module _ (state : State) (place : ℕ) (none : state.jobs ≡ []) where
   abbrev alone : State
   alone = state_at place state.transactions state.tables
 
@@ -43,7 +44,8 @@ module _ (state : State) (place : ℕ) where
   listed-alone (Some (show.Partitions name)) = refl
   listed-alone (Some show.Transactions) = refl
   listed-alone (Some show.Locks) = refl
-  listed-alone (Some show.Compactions) = refl
+  listed-alone (Some show.Compactions) =
+      ap (λ (jobs : List Job). shows job_names (job_rows state.tables (first_open 1 state.transactions) 1 jobs)) (sym none)
 
   means-alone : (o : Option Stmt) → means alone o ≡ means state o
   means-alone None = refl

@@ -70,9 +70,9 @@ module _ (state : State) (meaning : Option Meaning) where
         snapshot = first_of transaction.snapshot (record { place = state.entries; tables = state.tables; opened = length state.transactions });
       }
 
-comes-alone : (state : State) (place : ℕ) (o : Option Statement) → comes_to (state_at place state.transactions state.tables) o ≡ comes_to state o
-comes-alone state place None = refl
-comes-alone state place (Some statement) = meaning-alone state place statement.text
+comes-alone : (state : State) (place : ℕ) → state.jobs ≡ [] → (o : Option Statement) → comes_to (state_at place state.transactions state.tables) o ≡ comes_to state o
+comes-alone state place none None = refl
+comes-alone state place none (Some statement) = meaning-alone state place none statement.text
 
 -- what it comes to doesn't rest on the place
 pub begun-now : (place : ℕ) (transactions : List Transaction) (tables : List Table) (number : ℕ) (meaning : Option Meaning) (transaction : Transaction)
@@ -80,7 +80,7 @@ pub begun-now : (place : ℕ) (transactions : List Transaction) (tables : List T
     → begun place (length transactions) tables number meaning transaction ≡ started (state_at place transactions tables) number transaction
 begun-now place transactions tables number meaning transaction is =
     begun-started (state_at place transactions tables) meaning number transaction
-    (is ∙ comes-alone (state_at place transactions tables) 0 (statement_at transaction number))
+    (is ∙ comes-alone (state_at place transactions tables) 0 refl (statement_at transaction number))
 
 -- ---- the statement at a place
 

@@ -9,6 +9,11 @@ use Rattle.hv_history.specs.declared.state.Table.{Table}
 use Rattle.hv_history.specs.declared.state.Ending.TheVariants.{Aborted, Made, Dropped}
 use Rattle.hv_history.specs.State.{State, no_openings, statement_of, meaning_in, first_of, first_known, changed_at, given_id, committed, ended, owned, dropped, forgot}
 
+-- no job is replayed: the entry asks for no compaction
+abbrev pub AsksNothing : Entry → Type 0
+AsksNothing (entry.Asked job table partition kind by) = ⊥
+AsksNothing _ = Unit {0}
+
 -- the state behind so many entries, as far as answers rest on it
 abbrev pub state_at : ℕ → List Transaction → List Table → State
 state_at place transactions tables =

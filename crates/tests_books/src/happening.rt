@@ -2,7 +2,7 @@
 ghost use Rattle.std.specs.Prelude.{◌≡◌, None};
 ghost use Rattle.hv_history.specs.Book.{tree_of_entry};
 
-use crate::taking::take;
+use crate::taking::{append, take};
 use crate::words::{number, piece};
 use hv_base::{List, NoMemory, TableId, Text, Touch, TxnId, WriteId};
 use hv_book::Book;
@@ -39,7 +39,7 @@ fn entry_of(call: &str, words: &[&str]) -> Entry
 }
 
 pub fn happens(book: &mut Book, call: &str, words: &[&str]) -> Result<(), NoMemory> {
-    book.push(entry_of(call, words), None)
+    append(book, entry_of(call, words), None)
 }
 
 /// A commit, of nothing or of so many rows that were inserted into a table.
@@ -55,7 +55,7 @@ pub fn commits(alloc: Global, book: &mut Book, words: &[&str]) -> Result<(), NoM
     }
     let txn = TxnId(number(words, 0));
     let wrote = List::from_vec(touches);
-    book.push(Entry::Commit { txn, wrote }, None)
+    append(book, Entry::Commit { txn, wrote }, None)
 }
 
 /// Opens a transaction for a text, or shows the text's fault.

@@ -6,7 +6,7 @@ ghost use Rattle.hv_logic.specs.declared.meaning.Meaning.TheVariants.{Listing};
 ghost use Rattle.hv_history.specs.declared.state.Statement.{Statement};
 ghost use Rattle.hv_history.specs.State.{numbered};
 ghost use Rattle.hv_history.specs.Legal.{is_open, is_started, locks_of_tree, is_named};
-ghost use Rattle.hv_history.specs.Shown.{each_from, filled, inserted_by, inserted_of, is_kept, is_kept_in, is_plain, listed_for, lock_names, lock_rows, name_rows, number_named, one_name, partition_rows, show_listed, shows, stood_rows, table_rows, transaction_names, transaction_row, transaction_rows};
+ghost use Rattle.hv_history.specs.Shown.{each_from, filled, inserted_by, inserted_of, is_kept, is_kept_in, is_plain, job_names, listed_for, lock_names, lock_rows, name_rows, number_named, one_name, partition_rows, show_listed, shows, stood_rows, table_rows, transaction_names, transaction_row, transaction_rows};
 ghost use Rattle.tests_books.specs.Replay.{state_now};
 
 use crate::meanings::tree_of;
@@ -17,7 +17,7 @@ use hv_locks::Lock;
 use hv_logic::Meaning;
 use hv_names::names_in;
 use hv_showing::{
-    lock_names, one_name, put_locks, put_touches, shown, text_row, transaction_names,
+    job_names, lock_names, one_name, put_locks, put_touches, shown, text_row, transaction_names,
     transaction_row,
 };
 use hv_value::Row;
@@ -325,6 +325,15 @@ fn show_locks(alloc: Global, transactions: &[Transaction]) -> Result<Option<Show
     Ok(listed)
 }
 
+// A replay has no jobs.
+fn show_compactions(alloc: Global) -> Result<Option<Shown>, NoMemory>
+    ensures { IfOk result (λ shown. shown ≡ shows job_names []) }
+{
+    let names = job_names(alloc)?;
+    let listed = shown(names, Vec::new(alloc))?;
+    Ok(listed)
+}
+
 #[tactic(auto, unfolding(hv_history::specs::Shown::show_listed))]
 fn listing(
     alloc: Global,
@@ -339,7 +348,7 @@ fn listing(
         Show::Partitions(name) => show_partitions(alloc, transactions, tables, name),
         Show::Transactions => show_transactions(alloc, transactions, tables),
         Show::Locks => show_locks(alloc, transactions),
-        Show::Compactions => Ok(None),
+        Show::Compactions => show_compactions(alloc),
     }
 }
 

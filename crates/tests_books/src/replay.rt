@@ -1,7 +1,7 @@
 //! A book replayed from its first entry.
 ghost use Rattle.std.specs.Prelude.{◌≡◌, ◌++◌, ◌∷◌, [], IfOk, OnOk};
 ghost use Rattle.hv_history.specs.State.{acted};
-ghost use Rattle.tests_books.specs.Replay.{state_at};
+ghost use Rattle.tests_books.specs.Replay.{AsksNothing, state_at};
 ghost use Rattle.tests_books.specs.Following.{Follows};
 
 use crate::{tables, transactions};
@@ -9,7 +9,8 @@ use hv_base::NoMemory;
 use hv_history::{Entry, Table, Transaction, numbered};
 use std::alloc::Global;
 
-// What an entry at this place does to the transactions and to the tables.
+// What an entry at this place does to the transactions and to the tables. A book that asks for a compaction isn't
+// replayed.
 #[tactic(auto, unfolding(hv_history::specs::State::acted))]
 fn act(
     alloc: Global,
@@ -22,6 +23,7 @@ fn act(
         ≡ (acted (state_at place transactions.old.items tables.old.items) entry.now).transactions) }
     ensures tables { OnOk result (tables.new.items
         ≡ (acted (state_at place transactions.old.items tables.old.items) entry.now).tables) }
+    ensures asked { OnOk result (AsksNothing entry.now) }
 {
     match entry {
         Entry::Opened {
@@ -51,6 +53,7 @@ fn act(
             transactions::go(alloc, place, entry, transactions, txn.0)
         }
         Entry::Forgot { table, .. } => tables::keep(alloc, entry, tables, table.0),
+        Entry::Asked { .. } => Err(NoMemory),
         _ => Ok(()),
     }
 }

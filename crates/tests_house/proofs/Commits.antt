@@ -8,7 +8,7 @@ use Rattle.hv_route.specs.Routes.{files_of}
 use Rattle.hv_route.specs.declared.files.OutFile.{OutFile}
 use Rattle.hv_history.specs.declared.entry.Entry.{Entry}
 use Rattle.hv_trail.specs.declared.trail.TrailItem.{TrailItem}
-use Rattle.hv_house.specs.Steps.{CanCommit}
+use Rattle.hv_session.specs.hv_beginning.specs.hv_steps.specs.hv_table_reader.specs.hv_acts.specs.hv_telling.specs.hv_house.specs.Steps.{CanCommit}
 use Rattle.tests_house.specs.Asking.{IsTable, AreTouches, AreFilesPut, IsDone}
 
 pub can_commit : (book : List Entry) (trail : List TrailItem) (txn : TxnId) (info : TableInfo) (effect : Effect) (write : ℕ) (wrote : List Touch) (files : List OutFile)

@@ -37,7 +37,7 @@ use Rattle.hv_history.specs.State.{state_of, numbered}
 use Rattle.hv_book.specs.declared.notes.TableNote.{TableNote}
 use Rattle.hv_book.specs.Briefs.{brief_table}
 use Rattle.hv_logic.specs.declared.catalog.Shape.{Shape}
-use Rattle.hv_house.specs.House.{IsSmall}
+use Rattle.hv_session.specs.hv_beginning.specs.hv_steps.specs.hv_table_reader.specs.hv_acts.specs.hv_telling.specs.hv_house.specs.House.{IsSmall}
 use Rattle.tests_house.specs.Asking.{AreTouches, IsTable}
 
 -- ---- a row of one number

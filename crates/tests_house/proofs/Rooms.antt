@@ -11,11 +11,11 @@ use Rattle.hv_history.specs.State.{State, state_of, numbered}
 use Rattle.hv_history.specs.Legal.{is_open, Of, StartFits, GivenFits, CreateFits, DropFits}
 use Rattle.hv_book.specs.declared.notes.TransactionNote.{TransactionNote}
 use Rattle.hv_book.specs.Briefs.{brief}
-use Rattle.hv_house.specs.declared.house.House.{House}
-use Rattle.hv_house.specs.House.{IsReadyWithin}
-use Rattle.hv_house.specs.declared.calls.EntryFault.{EntryFault}
-use Rattle.hv_house.specs.declared.calls.EntryFault.TheVariants as fault
-use Rattle.hv_house.specs.Calls.{CanBeGiven, CanStart, IfOpen, StaysOpenWithin}
+use Rattle.hv_session.specs.hv_beginning.specs.hv_steps.specs.hv_table_reader.specs.hv_acts.specs.hv_telling.specs.hv_house.specs.declared.house.House.{House}
+use Rattle.hv_session.specs.hv_beginning.specs.hv_steps.specs.hv_table_reader.specs.hv_acts.specs.hv_telling.specs.hv_house.specs.House.{IsReadyWithin}
+use Rattle.hv_session.specs.hv_beginning.specs.hv_steps.specs.hv_table_reader.specs.hv_acts.specs.hv_telling.specs.hv_house.specs.declared.calls.EntryFault.{EntryFault}
+use Rattle.hv_session.specs.hv_beginning.specs.hv_steps.specs.hv_table_reader.specs.hv_acts.specs.hv_telling.specs.hv_house.specs.declared.calls.EntryFault.TheVariants as fault
+use Rattle.hv_session.specs.hv_beginning.specs.hv_steps.specs.hv_table_reader.specs.hv_acts.specs.hv_telling.specs.hv_house.specs.Calls.{CanBeGiven, CanStart, IfOpen, StaysOpenWithin}
 use Rattle.tests_house.specs.Asking.{IsOpen, StaysOpen, IsRefusal}
 
 of_open : (P : Transaction → Type 0) (o : Option Transaction) → IsSomeAnd o P → IsSomeAnd o (λ t. IsTrue (is_open t) → P t)

@@ -1,8 +1,8 @@
 //! A statement of one's own, over whoever acts on the house.
-ghost use Rattle.std.specs.Prelude.{◌≡◌, IfSome, IfOk, OnOk};
+ghost use Rattle.std.specs.Prelude.{◌≡◌, ◌≤◌, IfSome, IfOk, OnOk};
 ghost use Rattle.hv_actor.specs.Acting.{IsLater};
-ghost use Rattle.hv_session.specs.hv_steps.specs.hv_table_reader.specs.hv_acts.specs.Told.{seen_in};
-ghost use Rattle.hv_session.specs.hv_steps.specs.hv_table_reader.specs.hv_acts.specs.Going.{IsOpenHouse};
+ghost use Rattle.hv_session.specs.hv_beginning.specs.hv_steps.specs.hv_table_reader.specs.hv_acts.specs.Told.{seen_in};
+ghost use Rattle.hv_session.specs.hv_beginning.specs.hv_steps.specs.hv_table_reader.specs.hv_acts.specs.Going.{IsOpenHouse};
 ghost use Rattle.hv_session.specs.Doing.{IsHold, CanFinish, CanFinishTaken};
 ghost use Rattle.tests_house.specs.Keeping.{held_behind, CanTakeUp, CanGoOn};
 
@@ -10,9 +10,9 @@ use crate::desk::{Desk, say_reply};
 use crate::words::{cut, say};
 use hv_actor::Actor;
 use hv_base::{Stage, Text};
-use hv_house::HouseFault;
-use hv_session::hv_steps::Reply;
-use hv_session::hv_steps::hv_table_reader::hv_acts::ToldHouse;
+use hv_session::hv_beginning::hv_steps::Reply;
+use hv_session::hv_beginning::hv_steps::hv_table_reader::hv_acts::ToldHouse;
+use hv_session::hv_beginning::hv_steps::hv_table_reader::hv_acts::hv_telling::hv_house::HouseFault;
 use hv_session::{Asking, How, Paused, Taken, finish, take_up, what_is_held_can_be_finished};
 use hv_shelf::Shelf;
 use std::alloc::Global;
@@ -92,6 +92,7 @@ pub(crate) fn take_one<D: Shelf + Drop, W: Actor<D, ToldHouse<D>>>(
     asking: Asking,
 ) -> Result<Taken, HouseFault>
     requires keeps { W.keeps actor.old }
+    requires both { 2 ≤ W.most }
     requires running { IsOpenHouse (W.house actor.old) }
     requires can { CanTakeUp asking }
     ensures keeps { W.keeps actor.new }
@@ -127,6 +128,7 @@ fn take<D: Shelf + Drop, W: Actor<D, ToldHouse<D>>>(
     said: &mut String,
 ) -> io::Result<()>
     requires keeps { W.keeps actor.old }
+    requires both { 2 ≤ W.most }
     requires can { CanGoOn D.told (W.house actor.old) desk.old }
     ensures keeps { W.keeps actor.new }
     ensures can { OnOk result (CanGoOn D.told (W.house actor.new) desk.new) }
@@ -172,6 +174,7 @@ pub(crate) fn do_order<D: Shelf + Drop, W: Actor<D, ToldHouse<D>>>(
     said: &mut String,
 ) -> io::Result<()>
     requires keeps { W.keeps actor.old }
+    requires both { 2 ≤ W.most }
     requires can { CanGoOn D.told (W.house actor.old) desk.old }
     ensures keeps { W.keeps actor.new }
     ensures can { OnOk result (CanGoOn D.told (W.house actor.new) desk.new) }

@@ -8,10 +8,12 @@ use hv_ast::{Stmt, discard};
 use hv_base::{Limits, TableId, Text, TxnId};
 use hv_fits::start_fits;
 use hv_history::{Cause, Entry};
-use hv_house::{EntryFault, House, HouseFault};
 use hv_locks::LockState;
 use hv_meta::{create_fits, drop_fits, given_fits, is_unended, note_of};
 use hv_reading::read_statement;
+use hv_session::hv_beginning::hv_steps::hv_table_reader::hv_acts::hv_telling::hv_house::{
+    EntryFault, House, HouseFault,
+};
 use hv_shelf::Shelf;
 use std::alloc::Global;
 use std::io;

@@ -1,7 +1,7 @@
 //! The change of a transaction: which rows, and their files.
 ghost use Rattle.std.specs.Prelude.{◌<◌, ◌≤◌, IfOk};
 ghost use Rattle.hv_dirs.specs.Names.{write_end};
-ghost use Rattle.hv_house.specs.House.{entries_of};
+ghost use Rattle.hv_session.specs.hv_beginning.specs.hv_steps.specs.hv_table_reader.specs.hv_acts.specs.hv_telling.specs.hv_house.specs.House.{entries_of};
 ghost use Rattle.tests_house.specs.Asking.{IsOpen, StaysOpen, IsTable};
 
 use crate::asking::{can_put, holds_id, table_of, write_of};
@@ -10,9 +10,11 @@ use crate::ending::commit_change;
 use crate::house::leave;
 use crate::words::{cut, number};
 use hv_base::{List, NoMemory, RowId, TableId, Text, TxnId, WriteId};
-use hv_house::{House, HouseFault};
 use hv_logic::{Effect, Found, TableInfo};
 use hv_route::{OutFile, route};
+use hv_session::hv_beginning::hv_steps::hv_table_reader::hv_acts::hv_telling::hv_house::{
+    House, HouseFault,
+};
 use hv_shelf::Shelf;
 use hv_table_rows::place_of_file;
 use hv_value::{Row, Value};

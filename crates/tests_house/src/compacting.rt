@@ -7,7 +7,9 @@ use crate::house::leave;
 use crate::words::{cut, number};
 use hv_base::{JobId, TableId, Text, WriteId};
 use hv_history::{Entry, JobKind};
-use hv_house::{House, HouseFault};
+use hv_session::hv_beginning::hv_steps::hv_table_reader::hv_acts::hv_telling::hv_house::{
+    House, HouseFault,
+};
 use hv_shelf::Shelf;
 use std::alloc::Global;
 

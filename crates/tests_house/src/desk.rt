@@ -4,7 +4,7 @@ ghost use Rattle.std.specs.Prelude.{◌≡◌, None};
 use crate::words::{add, add_number, say, say_number};
 use hv_base::Stage;
 use hv_session::Paused;
-use hv_session::hv_steps::Reply;
+use hv_session::hv_beginning::hv_steps::Reply;
 use std::alloc::Global;
 use std::io;
 use std::mem::ManuallyDrop;

@@ -3,8 +3,8 @@ ghost use Rattle.std.specs.Prelude.{◌≡◌, ◌<◌, ◌≤◌, true, IfOk};
 ghost use Rattle.hv_dirs.specs.Names.{write_end};
 ghost use Rattle.hv_history.specs.declared.entry.Entry.TheVariants as entry;
 ghost use Rattle.hv_trail.specs.Kept.{trail_of};
-ghost use Rattle.hv_house.specs.House.{entries_of, IsSmall};
-ghost use Rattle.hv_house.specs.Steps.{CanCommit};
+ghost use Rattle.hv_session.specs.hv_beginning.specs.hv_steps.specs.hv_table_reader.specs.hv_acts.specs.hv_telling.specs.hv_house.specs.House.{entries_of, IsSmall};
+ghost use Rattle.hv_session.specs.hv_beginning.specs.hv_steps.specs.hv_table_reader.specs.hv_acts.specs.hv_telling.specs.hv_house.specs.Steps.{CanCommit};
 ghost use Rattle.tests_house.specs.Asking.{IsOpen, StaysOpen, AreTouches, IsTable, IsDone};
 
 use crate::asking::is_done;
@@ -12,10 +12,12 @@ use crate::calls::{Said, refusal};
 use crate::house::leave;
 use hv_base::{List, NoMemory, TableId, Touch, TxnId, WriteId};
 use hv_conflicts::clash;
-use hv_house::{House, HouseFault};
 use hv_logic::{Effect, TableInfo};
 use hv_meta::{commit_fits, is_running};
 use hv_route::{OutFile, RouteFault, route, touches};
+use hv_session::hv_beginning::hv_steps::hv_table_reader::hv_acts::hv_telling::hv_house::{
+    House, HouseFault,
+};
 use hv_shelf::Shelf;
 use std::alloc::Global;
 

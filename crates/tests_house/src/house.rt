@@ -1,17 +1,19 @@
 //! Houses over stores: opened, and closed. No house and no store is let go of piece by piece: a house gives its store back, and a store is
 //! left to the end of the program.
 ghost use Rattle.std.specs.Prelude.{IfOk};
-ghost use Rattle.hv_session.specs.hv_steps.specs.hv_table_reader.specs.hv_acts.specs.hv_telling.specs.Telling.{IsWhole};
-ghost use Rattle.hv_house.specs.Housed.{ShutsHard};
-ghost use Rattle.hv_house.specs.Steps.{seen_of};
-ghost use Rattle.hv_session.specs.hv_steps.specs.hv_table_reader.specs.hv_acts.specs.Going.{IsOpenHouse};
+ghost use Rattle.hv_session.specs.hv_beginning.specs.hv_steps.specs.hv_table_reader.specs.hv_acts.specs.hv_telling.specs.Telling.{IsWhole};
+ghost use Rattle.hv_session.specs.hv_beginning.specs.hv_steps.specs.hv_table_reader.specs.hv_acts.specs.hv_telling.specs.hv_house.specs.Housed.{ShutsHard};
+ghost use Rattle.hv_session.specs.hv_beginning.specs.hv_steps.specs.hv_table_reader.specs.hv_acts.specs.hv_telling.specs.hv_house.specs.Steps.{seen_of};
+ghost use Rattle.hv_session.specs.hv_beginning.specs.hv_steps.specs.hv_table_reader.specs.hv_acts.specs.Going.{IsOpenHouse};
 ghost use Rattle.tests_house.specs.Asking.{IsOpen};
 ghost use Rattle.tests_house.specs.Keeping.{IsAsKept};
 
 use hv_base::Limits;
-use hv_house::{BootFault, House};
-use hv_session::hv_steps::hv_table_reader::hv_acts::ToldHouse;
-use hv_session::hv_steps::hv_table_reader::hv_acts::hv_telling::opened_is_whole;
+use hv_session::hv_beginning::hv_steps::hv_table_reader::hv_acts::ToldHouse;
+use hv_session::hv_beginning::hv_steps::hv_table_reader::hv_acts::hv_telling::hv_house::{
+    BootFault, House,
+};
+use hv_session::hv_beginning::hv_steps::hv_table_reader::hv_acts::hv_telling::opened_is_whole;
 use hv_shelf::Shelf;
 use std::alloc::Global;
 use std::io;

@@ -1,8 +1,8 @@
 //! Others, who do what they were told to do when.
 ghost use Rattle.std.specs.Prelude.{◌≡◌, false};
 ghost use Rattle.hv_actor.specs.Acting.{IsLater};
-ghost use Rattle.hv_session.specs.hv_steps.specs.hv_table_reader.specs.hv_acts.specs.Told.{seen_in};
-ghost use Rattle.hv_session.specs.hv_steps.specs.hv_table_reader.specs.hv_acts.specs.Going.{IsOpenHouse};
+ghost use Rattle.hv_session.specs.hv_beginning.specs.hv_steps.specs.hv_table_reader.specs.hv_acts.specs.Told.{seen_in};
+ghost use Rattle.hv_session.specs.hv_beginning.specs.hv_steps.specs.hv_table_reader.specs.hv_acts.specs.Going.{IsOpenHouse};
 ghost use Rattle.tests_house.specs.Keeping.{IsAsKept};
 
 use crate::acting::{asking, take_one};
@@ -12,7 +12,7 @@ use hv_actor::{Actor, Others};
 use hv_base::TxnId;
 use hv_history::Cause;
 use hv_session::Taken;
-use hv_session::hv_steps::hv_table_reader::hv_acts::{AbortFor, ActFault, ToldHouse};
+use hv_session::hv_beginning::hv_steps::hv_table_reader::hv_acts::{AbortFor, ActFault, ToldHouse};
 use hv_shelf::Shelf;
 use std::alloc::Global;
 use std::io;

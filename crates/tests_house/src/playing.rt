@@ -12,7 +12,9 @@ use crate::showing::{add_book, add_files};
 use crate::stores::{copied, fresh, kept, lay};
 use crate::words::{add, add_number, cut, number, say};
 use hv_base::{JobId, Limits, TableId, TxnId, WriteId};
-use hv_house::{BootFault, House, HouseFault};
+use hv_session::hv_beginning::hv_steps::hv_table_reader::hv_acts::hv_telling::hv_house::{
+    BootFault, House, HouseFault,
+};
 use hv_shelf::{MemoryShelf, Shelf};
 use std::alloc::Global;
 use std::io;

@@ -1,9 +1,11 @@
 //! The rows of a table as they stood where a transaction started, read act by act over a copy of the store.
 
+ghost use Rattle.std.specs.Prelude.{◌≤◌};
 ghost use Rattle.hv_stands.specs.Running.{Asking};
-ghost use Rattle.hv_session.specs.hv_steps.specs.hv_table_reader.specs.hv_acts.specs.Told.{trail_in};
-ghost use Rattle.hv_session.specs.hv_steps.specs.hv_table_reader.specs.hv_acts.specs.Going.{IsOpenHouse};
-ghost use Rattle.hv_session.specs.hv_steps.specs.Going.{WasOnWay};
+ghost use Rattle.hv_session.specs.hv_beginning.specs.hv_steps.specs.hv_table_reader.specs.hv_acts.specs.Told.{trail_in};
+ghost use Rattle.hv_session.specs.hv_beginning.specs.hv_steps.specs.hv_table_reader.specs.hv_acts.specs.Going.{IsOpenHouse};
+ghost use Rattle.hv_session.specs.hv_beginning.specs.hv_steps.specs.hv_table_reader.specs.hv_acts.specs.Reading.{HasReader};
+ghost use Rattle.hv_session.specs.hv_beginning.specs.hv_steps.specs.Going.{WasOnWay};
 ghost use Rattle.hv_session.specs.Doing.{CanFinish, CanFinishTaken};
 
 use crate::acting::{asking, take_one};
@@ -12,15 +14,17 @@ use crate::stores::copied_front;
 use crate::words::{add, cut, number};
 use hv_actor::Actor;
 use hv_ast::{Stmt, discard};
-use hv_base::Stage;
+use hv_base::{NoMemory, Stage, Text};
 use hv_history::FilePlace;
-use hv_house::{House, HouseFault};
-use hv_logic::{Found, Seen};
+use hv_logic::Found;
 use hv_meta::note_of;
 use hv_names::names_in;
-use hv_session::hv_steps::Way;
-use hv_session::hv_steps::hv_table_reader::hv_acts::ToldHouse;
-use hv_session::hv_steps::hv_table_reader::{RowFault, see_table};
+use hv_session::hv_beginning::hv_steps::Way;
+use hv_session::hv_beginning::hv_steps::hv_table_reader::hv_acts::ToldHouse;
+use hv_session::hv_beginning::hv_steps::hv_table_reader::hv_acts::hv_telling::hv_house::{
+    House, HouseFault,
+};
+use hv_session::hv_beginning::hv_steps::hv_table_reader::{RowFault, Wants, find_table, read_rows};
 use hv_session::{Paused, Point, Taken};
 use hv_shelf::{MemoryShelf, Shelf};
 use hv_value::Value;
@@ -70,13 +74,47 @@ fn add_damage(alloc: Global, said: &mut String, at: &FilePlace) -> io::Result<()
 fn add_seen(
     alloc: Global,
     said: &mut String,
-    found: &Result<Option<Seen>, RowFault>,
+    found: &Result<Option<Vec<Found>>, RowFault>,
 ) -> io::Result<()> {
     match found {
-        Ok(Some(seen)) => add_rows(alloc, said, seen.rows.as_slice()),
+        Ok(Some(rows)) => add_rows(alloc, said, rows.as_slice()),
         Ok(None) => add(said, "no table"),
         Err(RowFault::Damaged(at)) => add_damage(alloc, said, at),
         Err(RowFault::House(_)) => Err(ErrorKind::Other.into()),
+    }
+}
+
+/// Every partition is wanted.
+#[derive(Drop)]
+struct Everything;
+
+impl Wants for Everything {
+    ghost use Rattle.std.specs.Prelude.{true};
+
+    ghost picks = { λ every partition. true };
+
+    fn wants(&self, _alloc: Global, _partition: &Text) -> Result<bool, NoMemory> {
+        Ok(true)
+    }
+}
+
+/// The rows of the table of a name that a statement locks, as they stood at the place of its Start.
+fn rows_of<D: Shelf + Drop, W: Actor<D, ToldHouse<D>>>(
+    alloc: Global,
+    actor: &mut W,
+    way: Way,
+    name: &Text,
+) -> Result<Option<Vec<Found>>, RowFault>
+    requires keeps { W.keeps actor.old }
+    requires running { IsOpenHouse (W.house actor.old) }
+    requires reader { HasReader (trail_in (W.house actor.old)) way.txn way.place name.now }
+{
+    match find_table(alloc, actor, way.place, name)? {
+        Some(info) => {
+            let rows = read_rows(alloc, actor, way.txn, way.place, &info, &Everything)?;
+            Ok(Some(rows))
+        }
+        None => Ok(None),
     }
 }
 
@@ -86,14 +124,14 @@ fn first_seen<D: Shelf + Drop, W: Actor<D, ToldHouse<D>>>(
     actor: &mut W,
     way: Way,
     tree: &Stmt,
-) -> Result<Option<Seen>, RowFault>
+) -> Result<Option<Vec<Found>>, RowFault>
     requires keeps { W.keeps actor.old }
     requires running { IsOpenHouse (W.house actor.old) }
     requires was { (asking : Asking) × WasOnWay (trail_in (W.house actor.old)) asking way tree.now }
 {
     let names = names_in(alloc, tree)?;
     match names.first() {
-        Some(lock) => see_table(alloc, actor, way.txn, way.place, &lock.name, true),
+        Some(lock) => rows_of(alloc, actor, way, &lock.name),
         None => Ok(None),
     }
 }
@@ -103,7 +141,7 @@ fn seen_held<D: Shelf + Drop, W: Actor<D, ToldHouse<D>>>(
     alloc: Global,
     actor: &mut W,
     paused: Paused,
-) -> Result<Option<Seen>, RowFault>
+) -> Result<Option<Vec<Found>>, RowFault>
     requires keeps { W.keeps actor.old }
     requires running { IsOpenHouse (W.house actor.old) }
     requires can { CanFinish D.told (W.house actor.old) paused }
@@ -133,7 +171,7 @@ fn seen_taken<D: Shelf + Drop, W: Actor<D, ToldHouse<D>>>(
     alloc: Global,
     actor: &mut W,
     taken: Taken,
-) -> Result<Option<Seen>, RowFault>
+) -> Result<Option<Vec<Found>>, RowFault>
     requires keeps { W.keeps actor.old }
     requires running { IsOpenHouse (W.house actor.old) }
     requires can { CanFinishTaken D.told (W.house actor.old) taken }
@@ -152,8 +190,9 @@ fn seen_by<D: Shelf + Drop, W: Actor<D, ToldHouse<D>>>(
     alloc: Global,
     actor: &mut W,
     text: &str,
-) -> Result<Option<Seen>, RowFault>
+) -> Result<Option<Vec<Found>>, RowFault>
     requires keeps { W.keeps actor.old }
+    requires both { 2 ≤ W.most }
     requires running { IsOpenHouse (W.house actor.old) }
 {
     let Some(asking) = asking(alloc, "reader", text, Some(Stage::Start)) else {

@@ -8,7 +8,7 @@ use crate::house::{close, open_told};
 use crate::others::Scripted;
 use crate::words::{add, add_number, cut, number, say};
 use hv_actor::Crowd;
-use hv_session::hv_steps::hv_table_reader::hv_acts::ToldHouse;
+use hv_session::hv_beginning::hv_steps::hv_table_reader::hv_acts::ToldHouse;
 use hv_shelf::Shelf;
 use std::alloc::Global;
 use std::io;

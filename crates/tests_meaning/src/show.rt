@@ -1,5 +1,6 @@
 //! What is printed.
 
+use hv_ast::CompactionKind;
 use hv_base::{NoMemory, Refusal, Text};
 use hv_logic::Found;
 use hv_value::{Row, print_value};
@@ -52,4 +53,23 @@ pub(crate) fn deletes(deletes: &[Found], out: &mut Vec<u8>) -> Result<(), NoMemo
         row(&found.row, out)?;
     }
     Ok(())
+}
+
+fn kind_of(kind: CompactionKind) -> &'static str {
+    match kind {
+        CompactionKind::Minor => "minor",
+        CompactionKind::Major => "major",
+    }
+}
+
+/// A compaction that is asked for: its kind, and the partition's text.
+pub(crate) fn asked(
+    alloc: Global,
+    partition: &Text,
+    kind: CompactionKind,
+    out: &mut Vec<u8>,
+) -> Result<(), NoMemory> {
+    let kind = kind_of(kind);
+    let text = format!(in alloc; "asked {kind} [{partition}]")?;
+    Ok(out.extend_from_slice(text.as_bytes())?)
 }

@@ -141,6 +141,7 @@ impl Tables {
                 out.extend_from_slice(b"made")?;
                 self.make(alloc, shape)
             }
+            Meaning::Ask(_, partition, kind) => show::asked(alloc, &partition, kind, out),
             Meaning::Unmake(table) => {
                 self.unmake(table.0 as usize);
                 Ok(out.extend_from_slice(b"dropped")?)

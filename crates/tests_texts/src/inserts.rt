@@ -4,7 +4,7 @@ use hv_ast::{Expr, Insert, Literal, PartitionItem, Rows, Stmt, Unary, discard};
 use hv_base::{List, NoMemory, Text};
 use hv_lex::lex;
 use hv_parse_stmt::parse_stmt;
-use hv_values_text::{Unread, read_values};
+use hv_values_text::{Unread, read_values, skim_values};
 use std::alloc::{AllocError, Global};
 
 fn show_literal(out: &mut String, literal: &Literal) -> Result<(), AllocError> {
@@ -94,6 +94,19 @@ fn by_bytes(alloc: Global, out: &mut String, text: &Text) -> Result<(), AllocErr
     }
 }
 
+/// The same without the rows, which stand last.
+fn passed_over(alloc: Global, out: &mut String, text: &Text) -> Result<(), AllocError> {
+    match skim_values(alloc, text) {
+        Ok(tree) => {
+            let done = show_tree(out, &tree);
+            discard(tree);
+            done
+        }
+        Err(Unread::Unknown) => write!(out, "unknown"),
+        Err(Unread::NoMemory) => write!(out, "out of memory"),
+    }
+}
+
 fn by_tokens(alloc: Global, out: &mut String, text: &Text) -> Result<(), AllocError> {
     let tokens = match lex(alloc, text) {
         Ok(tokens) => tokens,
@@ -109,13 +122,19 @@ fn by_tokens(alloc: Global, out: &mut String, text: &Text) -> Result<(), AllocEr
     }
 }
 
-/// What both readers make of a text: `both` and the tree where that is the same.
+/// What both readers make of a text: `both` and the tree where that is the same. What passes over the rows gives the
+/// same without them.
 pub fn answer(alloc: Global, out: &mut String, words: &[&str]) -> Result<(), NoMemory> {
     let text = Text::of(alloc, piece(words, 0))?;
     let mut bytes = String::new(alloc);
     let mut tokens = String::new(alloc);
     by_bytes(alloc, &mut bytes, &text)?;
     by_tokens(alloc, &mut tokens, &text)?;
+    let mut passed = String::new(alloc);
+    passed_over(alloc, &mut passed, &text)?;
+    if bytes.as_str().strip_prefix(passed.as_str()).is_none() {
+        return Ok(write!(out, "passed over as {passed}, {bytes}")?);
+    }
     let done = if bytes.as_str() == tokens.as_str() {
         write!(out, "both {bytes}")
     } else {

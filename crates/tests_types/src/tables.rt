@@ -248,12 +248,14 @@ impl Tables {
                 self.unmake(table);
                 Ok(out.extend_from_slice(b"dropped")?)
             }
+            Logic::Ask(_) => Ok(out.extend_from_slice(b"asks")?),
             Logic::Change(change) => self.change(alloc, &change, out),
             Logic::Merge(merge) => merged(alloc, &merge.clauses, out),
             Logic::Query(query) => {
                 self.query(alloc, &query, out)?;
                 self.by_workers(rt, alloc, &query, out)
             }
+            Logic::Explain(_) => Ok(out.extend_from_slice(b"explained")?),
         }
     }
 }

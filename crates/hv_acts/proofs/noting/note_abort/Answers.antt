@@ -19,7 +19,7 @@ returns-in-Ok g c = record {
   noted =
       abort-done g.D.Shelf.told g.D.Shelf.faults c.args.txn c.args.cause c.args.aborted c.args.house.now c.note.new.house c.requires.whole
       c.in-Ok.ensures.whole c.requires.place c.requires.same c.in-Ok.ensures.step;
-  hard = shuts_later g.D.Shelf.hard (seen_of c.args.house.now) (seen_of c.note.new.house) c.note.ensures.step.rest.start c.note.ensures.hard c.requires.hard;
+  hard = shuts_later g.D.Shelf.told g.D.Shelf.faults g.D.Shelf.hard _ _ (seen_of c.args.house.now) (seen_of c.note.new.house) c.note.ensures.step c.note.ensures.hard c.requires.hard;
 }
 
 pub returns-in-Err : goal.returns-in-Err
@@ -28,5 +28,5 @@ returns-in-Err g c = record {
       abort-failed g.D.Shelf.told g.D.Shelf.faults c.args.txn c.args.cause c.args.aborted.text c.in-Err.fault c.args.house.now c.note.new.house c.requires.own c.requires.whole
       c.requires.fits c.in-Err.ensures.stays c.in-Err.ensures.halted c.in-Err.ensures.cause.failed
       c.in-Err.ensures.opens c.in-Err.ensures.start c.in-Err.ensures.step;
-  hard = shuts_later g.D.Shelf.hard (seen_of c.args.house.now) (seen_of c.note.new.house) c.note.ensures.step.rest.start c.note.ensures.hard c.requires.hard;
+  hard = shuts_later g.D.Shelf.told g.D.Shelf.faults g.D.Shelf.hard _ _ (seen_of c.args.house.now) (seen_of c.note.new.house) c.note.ensures.step c.note.ensures.hard c.requires.hard;
 }

@@ -21,7 +21,7 @@ returns-in-Ok g c = record {
   begun =
       begin-done g.D.Shelf.told g.D.Shelf.faults c.args.session c.args.number c.args.text c.args.tree _ c.args.house.now c.begin.new.house c.requires.whole
       c.in-Ok.ensures.whole (c.can_begin.ensures.can.0 c.if-not-can_begin.false) c.in-Ok.ensures.txn c.in-Ok.ensures.place c.in-Ok.ensures.step;
-  hard = shuts_later g.D.Shelf.hard (seen_of c.args.house.now) (seen_of c.begin.new.house) c.begin.ensures.step.rest.start c.begin.ensures.hard c.requires.hard;
+  hard = shuts_later g.D.Shelf.told g.D.Shelf.faults g.D.Shelf.hard _ _ (seen_of c.args.house.now) (seen_of c.begin.new.house) c.begin.ensures.step c.begin.ensures.hard c.requires.hard;
 }
 
 pub returns-in-Err : goal.returns-in-Err
@@ -32,5 +32,5 @@ returns-in-Err g c = record {
       (c.can_begin.ensures.fits c.if-not-can_begin.false (record { session = c.args.session; number = c.args.number; text = c.args.text }) c.requires.runs)
       c.in-Err.ensures.stays c.in-Err.ensures.halted c.in-Err.ensures.cause.failed c.in-Err.ensures.ends
       c.in-Err.ensures.opens c.in-Err.ensures.start c.in-Err.ensures.step;
-  hard = shuts_later g.D.Shelf.hard (seen_of c.args.house.now) (seen_of c.begin.new.house) c.begin.ensures.step.rest.start c.begin.ensures.hard c.requires.hard;
+  hard = shuts_later g.D.Shelf.told g.D.Shelf.faults g.D.Shelf.hard _ _ (seen_of c.args.house.now) (seen_of c.begin.new.house) c.begin.ensures.step c.begin.ensures.hard c.requires.hard;
 }

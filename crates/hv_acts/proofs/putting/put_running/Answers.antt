@@ -29,7 +29,7 @@ returns-in-Ok g c = record {
   put =
       file-done g.D.Shelf.told g.D.Shelf.faults c.args.by c.args.place c.args.file.now c.args.house.now c.put.new.house
       (c.runs_with.ensures.runs.0 c.if-not-runs_with.false) c.requires.whole c.in-Ok.ensures.whole c.in-Ok.ensures.encoded c.in-Ok.ensures.put.step;
-  hard = shuts_later g.D.Shelf.hard (seen_of c.args.house.now) (seen_of c.put.new.house) c.put.ensures.put.step.rest.start c.put.ensures.hard c.requires.hard;
+  hard = shuts_later g.D.Shelf.told g.D.Shelf.faults g.D.Shelf.hard _ _ (seen_of c.args.house.now) (seen_of c.put.new.house) c.put.ensures.put.step c.put.ensures.hard c.requires.hard;
 }
 
 pub returns-in-Err : goal.returns-in-Err
@@ -38,5 +38,5 @@ returns-in-Err g c = record {
       file-failed g.D.Shelf.told g.D.Shelf.faults c.args.by c.args.place c.args.file.now c.in-Err.fault c.args.house.now c.put.new.house
       c.requires.whole c.in-Err.ensures.stays c.in-Err.ensures.opens c.in-Err.ensures.start c.in-Err.ensures.put.book
       c.in-Err.ensures.put.stays c.in-Err.ensures.put.cause.failed c.in-Err.ensures.put.step;
-  hard = shuts_later g.D.Shelf.hard (seen_of c.args.house.now) (seen_of c.put.new.house) c.put.ensures.put.step.rest.start c.put.ensures.hard c.requires.hard;
+  hard = shuts_later g.D.Shelf.told g.D.Shelf.faults g.D.Shelf.hard _ _ (seen_of c.args.house.now) (seen_of c.put.new.house) c.put.ensures.put.step c.put.ensures.hard c.requires.hard;
 }

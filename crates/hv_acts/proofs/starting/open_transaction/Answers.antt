@@ -7,7 +7,7 @@ use Rattle.hv_acts.proofs.Opens.{next-of, open-done, open-full, open-failed}
 use Rattle.hv_acts.proofs.starting.open_transaction.Goals as goal
 
 pub fits-requires : goal.fits-requires
-fits-requires g c κs within = (search rules, (c.requires.whole.ready, c.requires.runs))
+fits-requires g c κs within = (search rules, (c.requires.whole.ready, (c.args.tree, c.requires.runs)))
 
 pub returns-then-not-fits-clause-opened : goal.returns-then-not-fits-clause-opened
 returns-then-not-fits-clause-opened g c =
@@ -40,8 +40,8 @@ returns-in-Err-clause-opened g c =
 
 pub returns-in-Ok-clause-hard : goal.returns-in-Ok-clause-hard
 returns-in-Ok-clause-hard g c =
-    shuts_later g.D.Shelf.hard (seen_of c.args.house.now) (seen_of c.note.new.house) c.note.ensures.step.rest.start c.note.ensures.hard c.requires.hard
+    shuts_later g.D.Shelf.told g.D.Shelf.faults g.D.Shelf.hard _ _ (seen_of c.args.house.now) (seen_of c.note.new.house) c.note.ensures.step c.note.ensures.hard c.requires.hard
 
 pub returns-in-Err-clause-hard : goal.returns-in-Err-clause-hard
 returns-in-Err-clause-hard g c =
-    shuts_later g.D.Shelf.hard (seen_of c.args.house.now) (seen_of c.note.new.house) c.note.ensures.step.rest.start c.note.ensures.hard c.requires.hard
+    shuts_later g.D.Shelf.told g.D.Shelf.faults g.D.Shelf.hard _ _ (seen_of c.args.house.now) (seen_of c.note.new.house) c.note.ensures.step c.note.ensures.hard c.requires.hard

@@ -1,9 +1,9 @@
 use Rattle.std.proofs.Common.{◌≤◌, ◌+◌, ◌++◌, length, drop, take, refl, sym, ap, ◌∙◌, arith, rules}
 use Rattle.std.proofs.lemmas.List.{append_assoc, length-map}
-use Rattle.hv_history.specs.State.{state_of, numbered}
+use Rattle.hv_meta.specs.hv_book.specs.hv_history.specs.State.{state_of, numbered}
 use Rattle.hv_meta.specs.Catalogs.{info_in, live_infos}
 use Rattle.hv_meta.proofs.FactLemmas.{infos-step}
-use Rattle.hv_book.specs.Briefs.{brief_table}
+use Rattle.hv_meta.specs.hv_book.specs.Briefs.{brief_table}
 use Rattle.hv_earlier.proofs.CatalogLemmas.{catalog-end}
 use Rattle.hv_earlier.proofs.catalogs.catalog_at.Goals as goal
 

@@ -1,5 +1,5 @@
 use Rattle.std.proofs.Common.{◌≡◌, drop, take}
-use Rattle.hv_history.specs.State.{state_of}
+use Rattle.hv_meta.specs.hv_book.specs.hv_history.specs.State.{state_of}
 use Rattle.hv_meta.specs.Catalogs.{live_infos}
 use Rattle.hv_earlier.specs.Lists.{catalog_at, info_of_name}
 use Rattle.hv_earlier.proofs.catalogs.find_at.Given as goal

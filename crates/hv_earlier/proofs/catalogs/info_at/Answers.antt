@@ -1,8 +1,8 @@
 use Rattle.std.proofs.Common.{rules, ◌≡◌, ◌∷◌, [], take, sym, ap, ◌∙◌, true}
 use Rattle.std.specs.Option.{option_copied}
-use Rattle.hv_history.specs.State.{state_of, numbered}
-use Rattle.hv_book.specs.Briefs.{brief_table}
-use Rattle.hv_book.proofs.TextLaws.{numbered-map}
+use Rattle.hv_meta.specs.hv_book.specs.hv_history.specs.State.{state_of, numbered}
+use Rattle.hv_meta.specs.hv_book.specs.Briefs.{brief_table}
+use Rattle.hv_meta.specs.hv_book.proofs.TextLaws.{numbered-map}
 use Rattle.hv_earlier.proofs.PlaceLaws.{missing-table}
 use Rattle.hv_earlier.proofs.CatalogLemmas.{live-info, live-there}
 use Rattle.hv_earlier.proofs.catalogs.info_at.Goals as goal

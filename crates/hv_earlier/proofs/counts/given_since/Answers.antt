@@ -2,7 +2,7 @@ use Rattle.std.proofs.Common.{◌≡◌, ◌-◌, suc, length, map, take, refl, 
 use Rattle.std.proofs.lemmas.Option.{slice_get_read}
 use Rattle.hv_ids.specs.Ids.{table_of}
 use Rattle.hv_links.specs.Links.{before_of}
-use Rattle.hv_book.specs.Past.{total}
+use Rattle.hv_meta.specs.hv_book.specs.Past.{total}
 use Rattle.hv_earlier.specs.Places.{given_from}
 use Rattle.hv_earlier.proofs.WalkLaws.{IsStop, stop-start, stop-step, given-start, given-step, none-from, not-from}
 use Rattle.hv_earlier.proofs.counts.given_since.Goals as goal

@@ -1,5 +1,5 @@
 use Rattle.std.proofs.Common.{◌≡◌, ◌+◌, ◌<◌, ◌≤◌, ◌^◌, length, take}
-use Rattle.hv_book.specs.Past.{total}
+use Rattle.hv_meta.specs.hv_book.specs.Past.{total}
 use Rattle.hv_earlier.specs.Places.{given_from}
 use Rattle.hv_earlier.proofs.WalkLaws.{IsStop}
 use Rattle.hv_earlier.proofs.counts.given_since.Given as goal

@@ -1,8 +1,8 @@
 use Rattle.std.proofs.Common.{ap, ◌∙◌, arith}
-use Rattle.hv_history.specs.State.{state_of, numbered}
-use Rattle.hv_book.specs.Briefs.{brief_table}
-use Rattle.hv_book.specs.Past.{past_in}
-use Rattle.hv_book.proofs.TextLaws.{numbered-map}
+use Rattle.hv_meta.specs.hv_book.specs.hv_history.specs.State.{state_of, numbered}
+use Rattle.hv_meta.specs.hv_book.specs.Briefs.{brief_table}
+use Rattle.hv_meta.specs.hv_book.specs.Past.{past_in}
+use Rattle.hv_meta.specs.hv_book.proofs.TextLaws.{numbered-map}
 use Rattle.hv_earlier.proofs.PlaceLaws.{high-of, no-owners}
 use Rattle.hv_earlier.proofs.WalkLaws.{given-so}
 use Rattle.hv_earlier.proofs.counts.high_at.Goals as goal

@@ -1,6 +1,6 @@
 use Rattle.std.proofs.Common.{ap, ◌∙◌}
-use Rattle.hv_history.specs.State.{numbered}
-use Rattle.hv_book.specs.Past.{live_then}
+use Rattle.hv_meta.specs.hv_book.specs.hv_history.specs.State.{numbered}
+use Rattle.hv_meta.specs.hv_book.specs.Past.{live_then}
 use Rattle.hv_earlier.proofs.counts.was_live.Goals as goal
 
 pub returns : goal.returns

@@ -1,7 +1,7 @@
 use Rattle.std.proofs.Common.{◌++◌, List, ap, ◌∙◌, arith}
 use Rattle.std.specs.List.{flat_map}
 use Rattle.hv_wids.specs.declared.list.Exception.{Exception}
-use Rattle.hv_book.specs.Past.{total, past_in}
+use Rattle.hv_meta.specs.hv_book.specs.Past.{total, past_in}
 use Rattle.hv_earlier.specs.Places.{exceptions_of, weight_from}
 use Rattle.hv_earlier.proofs.ExceptionLaws.{all-exceptions}
 use Rattle.hv_earlier.proofs.earlier.exceptions_at.Goals as goal

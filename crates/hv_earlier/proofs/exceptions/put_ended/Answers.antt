@@ -2,8 +2,8 @@ use Rattle.std.proofs.Common.{◌≡◌, ◌-◌, ◌<◌, suc, length, map, tak
 use Rattle.std.proofs.lemmas.Option.{slice_get_read}
 use Rattle.hv_ids.specs.Ids.{table_of}
 use Rattle.hv_links.specs.Links.{before_of}
-use Rattle.hv_book.specs.Past.{total}
-use Rattle.hv_book.proofs.IdLaws.{total-append}
+use Rattle.hv_meta.specs.hv_book.specs.Past.{total}
+use Rattle.hv_meta.specs.hv_book.proofs.IdLaws.{total-append}
 use Rattle.hv_earlier.specs.Places.{ended_exceptions, weight_from}
 use Rattle.hv_earlier.proofs.WalkLaws.{IsStop, stop-start, stop-step}
 use Rattle.hv_earlier.proofs.ExceptionLaws.{ended-start, ended-step, ended-none}

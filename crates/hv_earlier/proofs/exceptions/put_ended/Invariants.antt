@@ -1,6 +1,6 @@
 use Rattle.std.proofs.Common.{◌≡◌, ◌+◌, ◌≤◌, ℕ, length, take}
 use Rattle.hv_wids.specs.declared.list.Exception.{Exception}
-use Rattle.hv_book.specs.Past.{total}
+use Rattle.hv_meta.specs.hv_book.specs.Past.{total}
 use Rattle.hv_earlier.specs.Places.{weight_from}
 use Rattle.hv_earlier.proofs.WalkLaws.{IsStop}
 use Rattle.hv_earlier.proofs.exceptions.put_ended.Given as goal

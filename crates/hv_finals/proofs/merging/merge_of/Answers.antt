@@ -1,6 +1,6 @@
 use Rattle.std.proofs.Common.{refl, ap, ◌∙◌}
 use Rattle.hv_history.specs.State.{state_of, numbered}
-use Rattle.hv_tallies.proofs.NoteLemmas.{job-some, job-none}
+use Rattle.hv_queue.specs.hv_tallies.proofs.NoteLemmas.{job-some, job-none}
 use Rattle.hv_finals.proofs.RangeLemmas.{noted-there, merge-same}
 use Rattle.hv_finals.proofs.merging.merge_of.Goals as goal
 

@@ -1,7 +1,7 @@
 use Rattle.std.proofs.Common.{ap, ◌∙◌}
 use Rattle.std.specs.Prelude.{not, ◌==◌, ◌&&◌}
-use Rattle.hv_history.specs.State.{state_of}
-use Rattle.hv_tallies.specs.declared.survey.Survey.{Survey}
+use Rattle.hv_queue.specs.hv_history.specs.State.{state_of}
+use Rattle.hv_queue.specs.hv_tallies.specs.declared.survey.Survey.{Survey}
 use Rattle.hv_queue.proofs.SurveyLemmas.{busy-is}
 use Rattle.hv_job_fits.proofs.AskLemmas.{same-law, asked-law}
 use Rattle.hv_job_fits.proofs.asking.asked_fits.Goals as goal

@@ -1,4 +1,4 @@
-use Rattle.hv_history.specs.State.{state_of}
+use Rattle.hv_queue.specs.hv_history.specs.State.{state_of}
 use Rattle.hv_job_fits.proofs.AskLemmas.{same-law, asker-law}
 use Rattle.hv_job_fits.proofs.asking.is_asker.Goals as goal
 

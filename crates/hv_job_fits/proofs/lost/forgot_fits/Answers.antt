@@ -1,8 +1,8 @@
 use Rattle.std.proofs.Common.{ap, ◌∙◌}
 use Rattle.std.specs.Prelude.{◌&&◌}
 use Rattle.std.specs.List.{list_any}
-use Rattle.hv_history.specs.State.{state_of, numbered}
-use Rattle.hv_book.specs.Past.{past_in}
+use Rattle.hv_queue.specs.hv_history.specs.State.{state_of, numbered}
+use Rattle.hv_queue.specs.hv_tallies.specs.hv_earlier.specs.hv_meta.specs.hv_book.specs.Past.{past_in}
 use Rattle.hv_job_fits.specs.Notes.{is_lost_in, is_forgot}
 use Rattle.hv_job_fits.proofs.AskLemmas.{same-law}
 use Rattle.hv_job_fits.proofs.LostLemmas.{lost-law, forgot-law, forgets-law}

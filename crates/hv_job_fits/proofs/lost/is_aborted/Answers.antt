@@ -1,5 +1,5 @@
 use Rattle.std.proofs.Common.{ap, ◌∙◌}
-use Rattle.hv_history.specs.State.{state_of, numbered}
+use Rattle.hv_queue.specs.hv_history.specs.State.{state_of, numbered}
 use Rattle.hv_job_fits.specs.Notes.{is_aborted_note}
 use Rattle.hv_job_fits.proofs.LostLemmas.{aborted-same}
 use Rattle.hv_job_fits.proofs.lost.is_aborted.Goals as goal

@@ -1,6 +1,6 @@
 use Rattle.std.proofs.Common.{◌≡◌, drop}
 use Rattle.std.specs.List.{list_any}
-use Rattle.hv_history.specs.State.{state_of}
+use Rattle.hv_queue.specs.hv_history.specs.State.{state_of}
 use Rattle.hv_job_fits.specs.Notes.{is_lost_in}
 use Rattle.hv_job_fits.proofs.lost.is_any_lost.Given as goal
 

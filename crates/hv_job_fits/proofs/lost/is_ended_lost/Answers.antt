@@ -1,11 +1,11 @@
 use Rattle.std.proofs.Common.{◌≡◌, ◌-◌, suc, length, map, take, refl, sym, ap, ◌∙◌, subst, arith}
 use Rattle.std.proofs.lemmas.Option.{slice_get_read}
-use Rattle.hv_history.specs.State.{state_of}
+use Rattle.hv_queue.specs.hv_history.specs.State.{state_of}
 use Rattle.hv_ids.specs.Ids.{table_of}
 use Rattle.hv_links.specs.Links.{before_of}
-use Rattle.hv_book.specs.Past.{total, only_if, ended_weight}
-use Rattle.hv_earlier.proofs.WalkLaws.{IsStop, stop-start, stop-step, walk-start, walk-step}
-use Rattle.hv_tallies.proofs.WalkLemmas.{other-none, own-weight}
+use Rattle.hv_queue.specs.hv_tallies.specs.hv_earlier.specs.hv_meta.specs.hv_book.specs.Past.{total, only_if, ended_weight}
+use Rattle.hv_queue.specs.hv_tallies.specs.hv_earlier.proofs.WalkLaws.{IsStop, stop-start, stop-step, walk-start, walk-step}
+use Rattle.hv_queue.specs.hv_tallies.proofs.WalkLemmas.{other-none, own-weight}
 use Rattle.hv_job_fits.specs.Notes.{lost_weight}
 use Rattle.hv_job_fits.proofs.LostLemmas.{some-total, none-total}
 use Rattle.hv_job_fits.proofs.lost.is_ended_lost.Goals as goal

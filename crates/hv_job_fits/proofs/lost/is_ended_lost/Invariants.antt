@@ -1,7 +1,7 @@
 use Rattle.std.proofs.Common.{◌≡◌, ◌≤◌, length, take}
-use Rattle.hv_history.specs.State.{state_of}
-use Rattle.hv_book.specs.Past.{total, ended_weight}
-use Rattle.hv_earlier.proofs.WalkLaws.{IsStop}
+use Rattle.hv_queue.specs.hv_history.specs.State.{state_of}
+use Rattle.hv_queue.specs.hv_tallies.specs.hv_earlier.specs.hv_meta.specs.hv_book.specs.Past.{total, ended_weight}
+use Rattle.hv_queue.specs.hv_tallies.specs.hv_earlier.proofs.WalkLaws.{IsStop}
 use Rattle.hv_job_fits.specs.Notes.{lost_weight}
 use Rattle.hv_job_fits.proofs.lost.is_ended_lost.Given as goal
 

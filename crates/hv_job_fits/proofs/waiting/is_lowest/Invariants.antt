@@ -1,5 +1,5 @@
 use Rattle.std.proofs.Common.{◌≡◌, drop}
-use Rattle.hv_history.specs.State.{state_of}
+use Rattle.hv_queue.specs.hv_history.specs.State.{state_of}
 use Rattle.hv_job_fits.specs.Notes.{is_lowest}
 use Rattle.hv_job_fits.proofs.waiting.is_lowest.Given as goal
 

@@ -1,7 +1,7 @@
 use Rattle.std.proofs.Common.{ap, ◌∙◌}
 use Rattle.std.specs.Prelude.{◌&&◌}
-use Rattle.hv_history.specs.State.{state_of, numbered}
-use Rattle.hv_history.specs.JobsFit.{CleanedFits}
+use Rattle.hv_queue.specs.hv_history.specs.State.{state_of, numbered}
+use Rattle.hv_queue.specs.hv_history.specs.JobsFit.{CleanedFits}
 use Rattle.hv_job_fits.proofs.AskLemmas.{same-law}
 use Rattle.hv_job_fits.proofs.WorkLemmas.{none-of-job, cleaned-law}
 use Rattle.hv_job_fits.proofs.working.cleaned_fits.Goals as goal

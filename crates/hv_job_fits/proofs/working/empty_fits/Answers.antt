@@ -1,5 +1,5 @@
-use Rattle.hv_history.specs.State.{state_of, numbered}
-use Rattle.hv_history.specs.JobsFit.{EmptyFits}
+use Rattle.hv_queue.specs.hv_history.specs.State.{state_of, numbered}
+use Rattle.hv_queue.specs.hv_history.specs.JobsFit.{EmptyFits}
 use Rattle.hv_job_fits.proofs.AskLemmas.{same-law}
 use Rattle.hv_job_fits.proofs.WorkLemmas.{none-of-job, empty-law}
 use Rattle.hv_job_fits.proofs.working.empty_fits.Goals as goal

@@ -1,5 +1,5 @@
 use Rattle.std.proofs.Common.{sym, ap, ◌∙◌}
-use Rattle.hv_history.specs.State.{state_of}
+use Rattle.hv_queue.specs.hv_history.specs.State.{state_of}
 use Rattle.hv_job_fits.specs.Notes.{is_past_mark, is_past_note}
 use Rattle.hv_job_fits.proofs.working.is_past.Goals as goal
 

@@ -1,7 +1,7 @@
 use Rattle.std.proofs.Common.{ap, ◌∙◌}
 use Rattle.std.specs.Prelude.{Bool, not, ◌==◌, ◌&&◌}
-use Rattle.hv_history.specs.State.{state_of, numbered}
-use Rattle.hv_history.specs.JobsFit.{PublishedFits}
+use Rattle.hv_queue.specs.hv_history.specs.State.{state_of, numbered}
+use Rattle.hv_queue.specs.hv_history.specs.JobsFit.{PublishedFits}
 use Rattle.hv_job_fits.proofs.AskLemmas.{same-law}
 use Rattle.hv_job_fits.proofs.WorkLemmas.{none-of-job, published-law}
 use Rattle.hv_job_fits.proofs.working.published_fits.Goals as goal

@@ -1,4 +1,4 @@
-use Rattle.hv_session.specs.hv_steps.specs.hv_table_reader.specs.hv_acts.specs.hv_telling.specs.hv_house.specs.declared.fault.HouseFault.TheVariants as fault
+use Rattle.hv_session.specs.hv_beginning.specs.hv_steps.specs.hv_table_reader.specs.hv_acts.specs.hv_telling.specs.hv_house.specs.declared.fault.HouseFault.TheVariants as fault
 use Rattle.hv_program.specs.Stops.{IsShutFor}
 use Rattle.hv_program.proofs.Acting.{stops-first, opens-first}
 use Rattle.hv_program.proofs.Blaming.{passed_up}

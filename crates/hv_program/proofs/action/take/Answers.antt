@@ -2,12 +2,12 @@ use Rattle.std.proofs.Common.{◌≤◌, ℕ, Option, IfOk, IfErr, List, length,
 use Rattle.hv_base.specs.declared.gate.Stage.{Stage}
 use Rattle.hv_stands.specs.Running.{Asking}
 use Rattle.hv_actor.specs.Rows.{later_itself}
-use Rattle.hv_session.specs.hv_steps.specs.hv_table_reader.specs.hv_acts.specs.Told.{seen_in}
-use Rattle.hv_session.specs.hv_steps.specs.hv_table_reader.specs.hv_acts.specs.hv_telling.specs.hv_house.specs.House.{entries_of}
+use Rattle.hv_session.specs.hv_beginning.specs.hv_steps.specs.hv_table_reader.specs.hv_acts.specs.Told.{seen_in}
+use Rattle.hv_session.specs.hv_beginning.specs.hv_steps.specs.hv_table_reader.specs.hv_acts.specs.hv_telling.specs.hv_house.specs.House.{entries_of}
 use Rattle.hv_session.specs.Doing.{IsHold}
 use Rattle.hv_session.specs.Taking.{asked_of, IsKeptIn, IsTakenAs}
 use Rattle.hv_session.specs.Ways.{StopsTaken}
-use Rattle.hv_session.specs.hv_steps.specs.hv_table_reader.specs.hv_acts.specs.hv_telling.specs.hv_house.specs.declared.fault.HouseFault.TheVariants as fault
+use Rattle.hv_session.specs.hv_beginning.specs.hv_steps.specs.hv_table_reader.specs.hv_acts.specs.hv_telling.specs.hv_house.specs.declared.fault.HouseFault.TheVariants as fault
 use Rattle.hv_program.specs.Doing.{asking_of}
 use Rattle.hv_program.specs.Stops.{IsShutFor}
 use Rattle.hv_program.proofs.Acting.{opens-first}

@@ -1,4 +1,4 @@
-use Rattle.hv_session.specs.hv_steps.specs.Going.{faults_in}
+use Rattle.hv_session.specs.hv_beginning.specs.hv_steps.specs.Going.{faults_in}
 use Rattle.hv_session.specs.Doing.{FinishesSo}
 use Rattle.hv_program.proofs.Sessions.{acts-alone, is-kept, shuts-kept, finishing-whole, finishing-added, finishing-later, finishing-shut}
 use Rattle.hv_program.proofs.alone.finish_alone.Goals as goal

@@ -1,11 +1,16 @@
-use Rattle.hv_session.specs.hv_steps.specs.Going.{faults_in}
+use Rattle.std.proofs.Common.{le_refl}
+use Rattle.hv_session.specs.hv_beginning.specs.hv_steps.specs.Going.{faults_in}
 use Rattle.hv_session.specs.Doing.{TakesText}
 use Rattle.hv_session.specs.Taking.{asked_of}
+use Rattle.hv_session.proofs.Statements.{taken-can}
 use Rattle.hv_program.proofs.Sessions.{acts-alone, is-kept, shuts-kept, taking-whole, taking-added, taking-later, taking-shut}
 use Rattle.hv_program.proofs.alone.take_alone.Goals as goal
 
 pub take_up-requires-clause-keeps : goal.take_up-requires-clause-keeps
 take_up-requires-clause-keeps g c = is-kept g.D.Shelf.told g.D.Shelf.hard c.args.house.now c.requires.whole c.requires.hard
+
+pub take_up-requires-clause-both : goal.take_up-requires-clause-both
+take_up-requires-clause-both g c = le_refl 2
 
 pub take_up-requires-clause-running : goal.take_up-requires-clause-running
 take_up-requires-clause-running g c = c.requires.whole.ready.kept.running
@@ -29,7 +34,9 @@ pub returns-clause-held : goal.returns-clause-held
 returns-clause-held g c = (c.take_up.ensures.alone acts-alone).held
 
 pub returns-clause-can : goal.returns-clause-can
-returns-clause-can g c = c.take_up.ensures.can
+returns-clause-can g c =
+    taken-can g.D.Shelf.told g.D.Shelf.faults _ (faults_in g.D.Shelf.faults c.args.house.now) _ _ c.args.house.now c.take_up.new.actor (asked_of c.args.asking) c.args.asking.hold
+    c.take_up.result c.take_up.ensures.takes
 
 pub returns-clause-taken : goal.returns-clause-taken
 returns-clause-taken g c = (c.take_up.ensures.alone acts-alone).truly

@@ -1,7 +1,7 @@
 use Rattle.std.proofs.Common.{ap, ◌∙◌}
 use Rattle.hv_history.specs.State.{state_of, numbered}
-use Rattle.hv_book.specs.Briefs.{brief_table}
-use Rattle.hv_book.proofs.TextLaws.{numbered-map}
+use Rattle.hv_tallies.specs.hv_earlier.specs.hv_meta.specs.hv_book.specs.Briefs.{brief_table}
+use Rattle.hv_tallies.specs.hv_earlier.specs.hv_meta.specs.hv_book.proofs.TextLaws.{numbered-map}
 use Rattle.hv_queue.proofs.NoteLemmas.{live-some, live-none}
 use Rattle.hv_queue.proofs.queue.is_live.Goals as goal
 

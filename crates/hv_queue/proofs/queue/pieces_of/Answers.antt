@@ -1,8 +1,8 @@
 use Rattle.std.proofs.Common.{◌≡◌, Some, None, ap, ◌∙◌}
 use Rattle.hv_history.specs.State.{state_of}
 use Rattle.hv_history.specs.Jobs.{mark_by, pieces_up_to}
-use Rattle.hv_book.specs.declared.jobs.JobNote.{JobNote}
-use Rattle.hv_book.proofs.IdLaws.{all-numbered}
+use Rattle.hv_tallies.specs.hv_earlier.specs.hv_meta.specs.hv_book.specs.declared.jobs.JobNote.{JobNote}
+use Rattle.hv_tallies.specs.hv_earlier.specs.hv_meta.specs.hv_book.proofs.IdLaws.{all-numbered}
 use Rattle.hv_tallies.specs.Jobs.{asked_at}
 use Rattle.hv_tallies.proofs.AskedLemmas.{IsAskedThere, all-asked}
 use Rattle.hv_queue.proofs.queue.pieces_of.Goals as goal

@@ -2,7 +2,7 @@ use Rattle.std.proofs.Common.{◌≤◌, ◌+◌, length, drop, fold, refl, sym,
 use Rattle.std.proofs.lemmas.List.{length-map}
 use Rattle.hv_history.specs.State.{state_of}
 use Rattle.hv_history.specs.Thresholds.{set_in}
-use Rattle.hv_book.specs.Briefs.{brief}
+use Rattle.hv_tallies.specs.hv_earlier.specs.hv_meta.specs.hv_book.specs.Briefs.{brief}
 use Rattle.hv_queue.specs.Settings.{key_of, reads_of}
 use Rattle.hv_queue.proofs.SetLemmas.{set-step, set-end}
 use Rattle.hv_queue.proofs.settings.last_set.Goals as goal

@@ -1,8 +1,8 @@
 use Rattle.std.proofs.Common.{sym, ap, ◌∙◌}
 use Rattle.hv_history.specs.State.{state_of, numbered}
 use Rattle.hv_history.specs.Thresholds.{set_by}
-use Rattle.hv_book.specs.Briefs.{brief}
-use Rattle.hv_book.proofs.TextLaws.{numbered-map}
+use Rattle.hv_tallies.specs.hv_earlier.specs.hv_meta.specs.hv_book.specs.Briefs.{brief}
+use Rattle.hv_tallies.specs.hv_earlier.specs.hv_meta.specs.hv_book.proofs.TextLaws.{numbered-map}
 use Rattle.hv_queue.specs.Settings.{key_of, reads_of, set_with, end_place}
 use Rattle.hv_queue.proofs.SetLemmas.{uncommitted, committed-set}
 use Rattle.hv_queue.proofs.settings.set_next.Goals as goal

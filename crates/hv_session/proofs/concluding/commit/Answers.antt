@@ -1,9 +1,12 @@
-use Rattle.hv_steps.specs.hv_table_reader.specs.hv_acts.specs.Told.{trail_in}
-use Rattle.hv_steps.specs.hv_table_reader.specs.hv_acts.proofs.Lasting.{put-lasts, commit-lasts}
-use Rattle.hv_steps.specs.hv_table_reader.specs.hv_acts.proofs.Mine.{commit-mine}
-use Rattle.hv_steps.proofs.Joining.{reached-front, found-told, held-adds, act-left, act-risen, ends-rise}
+use Rattle.hv_beginning.specs.hv_steps.specs.hv_table_reader.specs.hv_acts.specs.Told.{trail_in}
+use Rattle.hv_beginning.specs.hv_steps.specs.hv_table_reader.specs.hv_acts.proofs.Lasting.{put-lasts, commit-lasts}
+use Rattle.hv_beginning.specs.hv_steps.specs.hv_table_reader.specs.hv_acts.proofs.Mine.{commit-mine}
+use Rattle.hv_beginning.specs.hv_steps.proofs.Joining.{reached-front, found-told, held-adds, act-left, act-risen, ends-rise}
 use Rattle.hv_session.proofs.Commits.{commit-ends, commit-book, commit-names, commit-ended, commit-answered}
 use Rattle.hv_session.proofs.concluding.commit.Goals as goal
+
+pub hold-requires-clause-few : goal.hold-requires-clause-few
+hold-requires-clause-few g c = g.met.W.Actor.one
 
 pub hold-requires-clause-can : goal.hold-requires-clause-can
 hold-requires-clause-can g c = λ house kept reached.

@@ -1,7 +1,7 @@
 use Rattle.std.proofs.Common.{sym, subst}
-use Rattle.hv_steps.specs.declared.ready.End.{End}
-use Rattle.hv_steps.specs.Going.{faults_in, Goes}
-use Rattle.hv_steps.specs.Phases.{CanConclude, Concludes}
+use Rattle.hv_beginning.specs.hv_steps.specs.declared.ready.End.{End}
+use Rattle.hv_beginning.specs.hv_steps.specs.Going.{faults_in, Goes}
+use Rattle.hv_beginning.specs.hv_steps.specs.Phases.{CanConclude, Concludes}
 use Rattle.hv_actor.specs.Acting.{among, known}
 use Rattle.hv_session.proofs.concluding.conclude.Goals as goal
 

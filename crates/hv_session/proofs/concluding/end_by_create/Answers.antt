@@ -1,8 +1,8 @@
-use Rattle.hv_steps.specs.hv_table_reader.specs.hv_acts.specs.Told.{trail_in}
-use Rattle.hv_steps.specs.declared.ready.End.TheVariants as last
-use Rattle.hv_steps.specs.Going.{faults_in}
-use Rattle.hv_steps.specs.Phases.{NoCause}
-use Rattle.hv_steps.proofs.Joining.{opened-lasts, adds-front}
+use Rattle.hv_beginning.specs.hv_steps.specs.hv_table_reader.specs.hv_acts.specs.Told.{trail_in}
+use Rattle.hv_beginning.specs.hv_steps.specs.declared.ready.End.TheVariants as last
+use Rattle.hv_beginning.specs.hv_steps.specs.Going.{faults_in}
+use Rattle.hv_beginning.specs.hv_steps.specs.Phases.{NoCause}
+use Rattle.hv_beginning.specs.hv_steps.proofs.Joining.{opened-lasts, adds-front}
 use Rattle.hv_session.proofs.Commits.{concludes-create, concludes-without, create-answers, lacks-answers}
 use Rattle.hv_session.proofs.concluding.end_by_create.Goals as goal
 

@@ -1,13 +1,16 @@
 use Rattle.std.proofs.Common.{refl}
-use Rattle.hv_steps.specs.hv_table_reader.specs.hv_acts.specs.Told.{trail_in}
-use Rattle.hv_steps.specs.hv_table_reader.specs.hv_acts.specs.Answers.{NoTest}
-use Rattle.hv_steps.specs.hv_table_reader.specs.hv_acts.specs.Dropping.{CanDrop, drop_of}
-use Rattle.hv_steps.specs.hv_table_reader.specs.hv_acts.proofs.Lasting.{drop-lasts}
-use Rattle.hv_steps.specs.hv_table_reader.specs.hv_acts.proofs.Mine.{entry-mine}
-use Rattle.hv_steps.proofs.Joining.{reached-front, found-told, held-adds, act-left, act-risen, answers-name, note-ends, ends-rise}
-use Rattle.hv_steps.proofs.Aborts.{book-added}
+use Rattle.hv_beginning.specs.hv_steps.specs.hv_table_reader.specs.hv_acts.specs.Told.{trail_in}
+use Rattle.hv_beginning.specs.hv_steps.specs.hv_table_reader.specs.hv_acts.specs.Answers.{NoTest}
+use Rattle.hv_beginning.specs.hv_steps.specs.hv_table_reader.specs.hv_acts.specs.Dropping.{CanDrop, drop_of}
+use Rattle.hv_beginning.specs.hv_steps.specs.hv_table_reader.specs.hv_acts.proofs.Lasting.{drop-lasts}
+use Rattle.hv_beginning.specs.hv_steps.specs.hv_table_reader.specs.hv_acts.proofs.Mine.{entry-mine}
+use Rattle.hv_beginning.specs.hv_steps.proofs.Joining.{reached-front, found-told, held-adds, act-left, act-risen, answers-name, note-ends, ends-rise}
+use Rattle.hv_beginning.specs.hv_steps.proofs.Aborts.{book-added}
 use Rattle.hv_session.proofs.Commits.{drop-replied}
 use Rattle.hv_session.proofs.concluding.unmake.Goals as goal
+
+pub hold-requires-clause-few : goal.hold-requires-clause-few
+hold-requires-clause-few g c = g.met.W.Actor.one
 
 pub hold-requires-clause-can : goal.hold-requires-clause-can
 hold-requires-clause-can g c = λ house kept reached told.

@@ -1,5 +1,5 @@
 use Rattle.std.proofs.Common.{[]}
-use Rattle.hv_steps.proofs.Joining.{told-later}
+use Rattle.hv_beginning.specs.hv_steps.proofs.Joining.{told-later}
 use Rattle.hv_session.proofs.Lastings.{later-finishes}
 use Rattle.hv_session.proofs.Finishings.{asked-goes, unasked-goes, asked-alone, unasked-alone}
 use Rattle.hv_session.proofs.finishing.finish.Goals as goal

@@ -1,5 +1,5 @@
-use Rattle.hv_steps.specs.hv_table_reader.specs.hv_acts.specs.hv_telling.specs.hv_house.specs.House.{entries_of}
-use Rattle.hv_steps.specs.Going.{faults_in}
+use Rattle.hv_beginning.specs.hv_steps.specs.hv_table_reader.specs.hv_acts.specs.hv_telling.specs.hv_house.specs.House.{entries_of}
+use Rattle.hv_beginning.specs.hv_steps.specs.Going.{faults_in}
 use Rattle.hv_session.proofs.Finishings.{said-finished, unsaid-held, said-goes, replied-goes, said-truly, replied-truly, replied-finished, held-some}
 use Rattle.hv_session.proofs.finishing.finish_unless.Goals as goal
 

@@ -1,14 +1,14 @@
 use Rattle.std.proofs.Common.{Some, subst}
 use Rattle.hv_history.specs.Asking.{numbers_in}
-use Rattle.hv_steps.specs.hv_table_reader.specs.hv_acts.specs.Told.{trail_in}
-use Rattle.hv_steps.specs.Going.{faults_in}
-use Rattle.hv_steps.specs.Phases.{Asks}
-use Rattle.hv_steps.specs.Requests.{HasAsked, IsAskIn}
-use Rattle.hv_steps.specs.declared.reply.Asked.{Asked}
-use Rattle.hv_steps.specs.declared.reply.Asked.TheVariants as asked
-use Rattle.hv_steps.proofs.AsksMade.{asked-prepares, asking-ended, asked-all}
-use Rattle.hv_steps.proofs.Joining.{on-way-opened}
-use Rattle.hv_steps.proofs.Unseen.{way-place}
+use Rattle.hv_beginning.specs.hv_steps.specs.hv_table_reader.specs.hv_acts.specs.Told.{trail_in}
+use Rattle.hv_beginning.specs.hv_steps.specs.Going.{faults_in}
+use Rattle.hv_beginning.specs.hv_steps.specs.Phases.{Asks}
+use Rattle.hv_beginning.specs.hv_steps.specs.Requests.{HasAsked, IsAskIn}
+use Rattle.hv_beginning.specs.hv_steps.specs.declared.reply.Asked.{Asked}
+use Rattle.hv_beginning.specs.hv_steps.specs.declared.reply.Asked.TheVariants as asked
+use Rattle.hv_beginning.specs.hv_steps.proofs.AsksMade.{asked-prepares, asking-ended, asked-all}
+use Rattle.hv_beginning.specs.hv_steps.proofs.Joining.{on-way-opened}
+use Rattle.hv_beginning.specs.hv_steps.proofs.Unseen.{way-place}
 use Rattle.hv_session.proofs.Takings.{goes-said, done-way, done-comes}
 use Rattle.hv_session.proofs.readying.ask_first.Goals as goal
 

@@ -1,7 +1,7 @@
 use Rattle.std.proofs.Common.{sym, ◌∙◌}
-use Rattle.hv_steps.specs.hv_table_reader.specs.hv_acts.specs.Told.{trail_in}
-use Rattle.hv_steps.specs.Going.{faults_in}
-use Rattle.hv_steps.proofs.AsksMade.{plain-is, unasked-all, unasked-prepares}
+use Rattle.hv_beginning.specs.hv_steps.specs.hv_table_reader.specs.hv_acts.specs.Told.{trail_in}
+use Rattle.hv_beginning.specs.hv_steps.specs.Going.{faults_in}
+use Rattle.hv_beginning.specs.hv_steps.proofs.AsksMade.{plain-is, unasked-all, unasked-prepares}
 use Rattle.hv_session.proofs.readying.get_ready.Goals as goal
 
 pub ask_first-requires-clause-plain : goal.ask_first-requires-clause-plain

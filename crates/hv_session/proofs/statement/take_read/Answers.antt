@@ -1,5 +1,5 @@
 use Rattle.hv_session.specs.Taking.{asked_of}
-use Rattle.hv_session.proofs.Statements.{said-takes, unsaid-halts, said-can, said-alone, halted-alone, unsaid-alone}
+use Rattle.hv_session.proofs.Statements.{said-takes, unsaid-halts, said-alone, halted-alone, unsaid-alone}
 use Rattle.hv_session.proofs.statement.take_read.Goals as goal
 
 pub returns-in_ok-said-in-Ok-clause-takes : goal.returns-in_ok-said-in-Ok-clause-takes
@@ -7,10 +7,6 @@ returns-in_ok-said-in-Ok-clause-takes g c =
     said-takes g.D.Shelf.told g.D.Shelf.faults g.W.Actor.between g.met.W.Actor.rows g.W.Actor.meanwhile (asked_of c.args.asking) c.args.tree c.args.asking.hold
     (g.W.Actor.own c.args.actor.now) (g.W.Actor.own c.carry.new.actor) (g.W.Actor.house c.args.actor.now) (g.W.Actor.house c.carry.new.actor)
     c.in-Ok.found c.in_ok-said-in-Ok.field-0 c.requires.tree c.in_ok-said-in-Ok.ensures.said c.in-Ok.ensures.takes
-
-pub returns-in_ok-said-in-Ok-clause-can : goal.returns-in_ok-said-in-Ok-clause-can
-returns-in_ok-said-in-Ok-clause-can g c =
-    said-can g.D.Shelf.told (g.W.Actor.house c.carry.new.actor) c.in-Ok.found c.in_ok-said-in-Ok.field-0 c.in_ok-said-in-Ok.ensures.said c.in-Ok.ensures.can
 
 pub returns-in_ok-said-in-Ok-clause-alone : goal.returns-in_ok-said-in-Ok-clause-alone
 returns-in_ok-said-in-Ok-clause-alone g c = λ alone.

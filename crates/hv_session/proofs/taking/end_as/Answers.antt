@@ -1,11 +1,11 @@
 use Rattle.std.proofs.Common.{subst, Ok, Err}
-use Rattle.hv_steps.specs.hv_table_reader.specs.hv_acts.specs.Told.{trail_in}
-use Rattle.hv_steps.specs.Going.{faults_in}
-use Rattle.hv_steps.specs.Phases.{PreparesAsked, CanConcludeIn}
-use Rattle.hv_steps.specs.Requests.{IsAskIn}
+use Rattle.hv_beginning.specs.hv_steps.specs.hv_table_reader.specs.hv_acts.specs.Told.{trail_in}
+use Rattle.hv_beginning.specs.hv_steps.specs.Going.{faults_in}
+use Rattle.hv_beginning.specs.hv_steps.specs.Phases.{PreparesAsked, CanConcludeIn}
+use Rattle.hv_beginning.specs.hv_steps.specs.Requests.{IsAskIn}
 use Rattle.hv_session.specs.Doing.{EndsFrom}
-use Rattle.hv_steps.specs.declared.reply.Prepared.TheVariants as prepared
-use Rattle.hv_steps.proofs.Joining.{on-way-opened}
+use Rattle.hv_beginning.specs.hv_steps.specs.declared.reply.Prepared.TheVariants as prepared
+use Rattle.hv_beginning.specs.hv_steps.proofs.Joining.{on-way-opened}
 use Rattle.hv_session.proofs.Takings.{goes-said, ready-ends, ended-ends, halted-so, ended-truly, done-told, done-way}
 use Rattle.hv_session.proofs.AloneFinishes.{from-alone}
 use Rattle.hv_session.proofs.taking.end_as.Goals as goal

@@ -1,6 +1,6 @@
 use Rattle.std.proofs.Common.{sym, subst}
 use Rattle.hv_session.specs.declared.paused.Point.{Point}
-use Rattle.hv_steps.specs.Going.{faults_in, Goes}
+use Rattle.hv_beginning.specs.hv_steps.specs.Going.{faults_in, Goes}
 use Rattle.hv_session.specs.Doing.{CanGoOn, EndsFromPoint}
 use Rattle.hv_session.proofs.AloneFinishes.{held-alone}
 use Rattle.hv_actor.specs.Acting.{among, known}

@@ -1,10 +1,10 @@
 use Rattle.std.proofs.Common.{subst, inr}
-use Rattle.hv_steps.specs.hv_table_reader.specs.hv_acts.specs.Told.{trail_in}
-use Rattle.hv_steps.specs.declared.reply.Opened.{Opened}
-use Rattle.hv_steps.specs.declared.reply.Opened.TheVariants as opened
+use Rattle.hv_beginning.specs.hv_steps.specs.hv_table_reader.specs.hv_acts.specs.Told.{trail_in}
+use Rattle.hv_beginning.specs.hv_steps.specs.declared.reply.Opened.{Opened}
+use Rattle.hv_beginning.specs.hv_steps.specs.declared.reply.Opened.TheVariants as opened
 use Rattle.hv_session.specs.declared.paused.Carried.TheVariants as carried
-use Rattle.hv_steps.specs.Going.{faults_in, GainsSome}
-use Rattle.hv_steps.specs.Phases.{Begins}
+use Rattle.hv_beginning.specs.hv_steps.specs.Going.{faults_in, GainsSome}
+use Rattle.hv_beginning.specs.hv_steps.specs.Phases.{Begins}
 use Rattle.hv_session.specs.Doing.{WasStarted}
 use Rattle.hv_session.proofs.Takings.{started-takes, never-takes}
 use Rattle.hv_session.proofs.AloneBegins.{begins-alone}
@@ -24,9 +24,6 @@ returns-in-Started-clause-goes g c = λ first own asking begins.
     (subst (λ (found : Opened). GainsSome g.D.Shelf.faults g.W.Actor.between (faults_in g.D.Shelf.faults first) (known own first)
     (known (g.W.Actor.own c.args.actor.now) house)
     (Begins first house asking c.args.tree found)) c.in-Started.is begins) c.go.ensures.goes
-
-pub returns-in-Started-clause-can : goal.returns-in-Started-clause-can
-returns-in-Started-clause-can g c = c.go.ensures.goes.can
 
 pub returns-in-Full-clause-goes : goal.returns-in-Full-clause-goes
 returns-in-Full-clause-goes g c = λ first own asking begins.

@@ -1,8 +1,8 @@
 use Rattle.std.proofs.Common.{Ok, Err}
-use Rattle.hv_steps.specs.Going.{faults_in}
-use Rattle.hv_steps.specs.Phases.{Sees}
+use Rattle.hv_beginning.specs.hv_steps.specs.Going.{faults_in}
+use Rattle.hv_beginning.specs.hv_steps.specs.Phases.{Sees}
 use Rattle.hv_session.specs.Doing.{EndsAs}
-use Rattle.hv_steps.specs.declared.reply.Outcome.TheVariants as outcome
+use Rattle.hv_beginning.specs.hv_steps.specs.declared.reply.Outcome.TheVariants as outcome
 use Rattle.hv_session.proofs.Takings.{goes-said, seen-comes, seen-ends, unseen-ends, unseen-truly, halted-so, done-told, done-way}
 use Rattle.hv_session.proofs.AloneFinishes.{as-alone}
 use Rattle.hv_session.proofs.taking.go_to_end.Goals as goal

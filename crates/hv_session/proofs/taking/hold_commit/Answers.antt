@@ -1,8 +1,8 @@
 use Rattle.std.proofs.Common.{Some}
 use Rattle.hv_base.specs.declared.gate.Stage.TheVariants as stage
-use Rattle.hv_steps.specs.Going.{faults_in}
-use Rattle.hv_steps.specs.Phases.{Sees}
-use Rattle.hv_steps.specs.declared.reply.Outcome.TheVariants as outcome
+use Rattle.hv_beginning.specs.hv_steps.specs.Going.{faults_in}
+use Rattle.hv_beginning.specs.hv_steps.specs.Phases.{Sees}
+use Rattle.hv_beginning.specs.hv_steps.specs.declared.reply.Outcome.TheVariants as outcome
 use Rattle.hv_session.proofs.Takings.{goes-said, seen-comes, seen-holds, halts-holds, unseen-commits, done-way}
 use Rattle.hv_session.proofs.AloneHolds.{seen-goes, unseen-goes, halted-goes}
 use Rattle.hv_session.proofs.taking.hold_commit.Goals as goal

@@ -1,7 +1,7 @@
 use Rattle.std.proofs.Common.{Some, subst}
 use Rattle.hv_base.specs.declared.gate.Stage.TheVariants as stage
-use Rattle.hv_steps.specs.Phases.{PreparesAsked, CanConcludeIn}
-use Rattle.hv_steps.specs.Requests.{IsAskIn}
+use Rattle.hv_beginning.specs.hv_steps.specs.Phases.{PreparesAsked, CanConcludeIn}
+use Rattle.hv_beginning.specs.hv_steps.specs.Requests.{IsAskIn}
 use Rattle.hv_session.proofs.Takings.{goes-said, ready-holds, early-holds, halts-holds}
 use Rattle.hv_session.proofs.AloneHolds.{ready-goes, broken-goes, halted-goes}
 use Rattle.hv_session.proofs.taking.keep_ready.Goals as goal

@@ -1,6 +1,6 @@
 use Rattle.std.proofs.Common.{arith, ap, ◌∙◌}
 use Rattle.hv_law_query.proofs.Weights.{query_below, select_below, unions_below, from_below, first_below, joins_below, join_below, union_below}
-use Rattle.hv_stage.specs.Stages.{source_stages}
+use Rattle.hv_typing.specs.Stages.{source_stages}
 use Rattle.hv_stage.proofs.StageNodes.{stages-Table, unchanged}
 use Rattle.hv_stage.proofs.stages.+stages.Goals as goal
 

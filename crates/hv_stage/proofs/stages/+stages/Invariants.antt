@@ -1,7 +1,7 @@
 use Rattle.std.proofs.Common.{◌≡◌, ◌++◌, take}
 use Rattle.std.specs.List.{flat_map}
 use Rattle.hv_law_query.proofs.Weights.{source_weight, joins_weight, from_weight, select_weight, unions_weight, query_weight}
-use Rattle.hv_stage.specs.Stages.{source_of_join, union_stages, source_stages}
+use Rattle.hv_typing.specs.Stages.{source_of_join, union_stages, source_stages}
 use Rattle.hv_stage.proofs.stages.+stages.Given as goal
 
 abbrev pub invariant-put_sources-loop-join : goal.invariant-put_sources-loop-join

@@ -1,6 +1,6 @@
 use Rattle.std.proofs.Common.{◌≡◌, ◌++◌, take}
 use Rattle.std.specs.List.{flat_map}
-use Rattle.hv_stage.specs.Stages.{build_of_join, source_stages}
+use Rattle.hv_typing.specs.Stages.{build_of_join, source_stages}
 use Rattle.hv_stage.proofs.stages.put_builds.Given as goal
 
 abbrev pub invariant-loop-join : goal.invariant-loop-join

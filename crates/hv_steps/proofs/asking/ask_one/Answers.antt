@@ -2,6 +2,9 @@ use Rattle.hv_steps.proofs.Requests.{request-ends, ask-left, ask-adds, ask-was, 
 use Rattle.hv_base.specs.declared.ids.TxnId.{TxnId}
 use Rattle.hv_steps.proofs.asking.ask_one.Goals as goal
 
+pub hold-requires-clause-few : goal.hold-requires-clause-few
+hold-requires-clause-few g c = g.met.W.Actor.one
+
 pub returns-clause-adds : goal.returns-clause-adds
 returns-clause-adds g c =
     ask-adds g.D.Shelf.told g.D.Shelf.faults g.W.Actor.meanwhile g.met.W.Actor.goes_on (g.W.Actor.house c.args.actor.now) (g.W.Actor.house c.hold.new.self) c.args.way

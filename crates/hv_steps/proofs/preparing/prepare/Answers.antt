@@ -6,13 +6,13 @@ use Rattle.hv_logic.specs.declared.meaning.Meaning.{Meaning}
 use Rattle.hv_logic.specs.declared.meaning.Meaning.TheVariants as meaning
 use Rattle.hv_effect.specs.Touches.{touches_in}
 use Rattle.hv_table_reader.specs.hv_acts.specs.Told.{trail_in}
-use Rattle.hv_table_reader.specs.hv_acts.specs.Passing.{HasAskedAll}
+use Rattle.hv_table_reader.specs.hv_acts.specs.Passing.{HasPassedAll}
 use Rattle.hv_steps.specs.declared.ready.End.TheVariants as end
 use Rattle.hv_steps.proofs.Shorts.{short_refused, short_limit, short_many, short_twice}
 use Rattle.hv_steps.specs.Going.{faults_in, Goes}
 use Rattle.hv_steps.specs.Phases.{Prepares}
 use Rattle.hv_steps.proofs.Joining.{on-way-opened}
-use Rattle.hv_steps.proofs.Ids.{comes-means, comes-asked, comes-change, comes-short}
+use Rattle.hv_steps.proofs.Ids.{comes-means, comes-asked, comes-change, comes-job, comes-short}
 use Rattle.hv_steps.proofs.Parts.{idle-prepares, idle-concludes, meant-prepares, ends-can, made-prepares, made-can, idle-can, make-can, drop-can}
 use Rattle.hv_actor.specs.Acting.{among, known}
 use Rattle.hv_steps.proofs.preparing.prepare.Goals as goal
@@ -113,6 +113,21 @@ returns-in-Unmake-clause-can g c =
     made-can g.D.Shelf.told g.D.Shelf.faults g.W.Actor.between g.met.W.Actor.rows g.W.Actor.meanwhile c.args.way.txn.0 low own own' a b c.args.way (end.Drop c.in-Unmake.table) ok_line c.made_ready-in-Unmake.result
     (drop-can g.D.Shelf.told a c.args.way c.in-Unmake.table (λ is. comes-means g.D.Shelf.told a c.requires.was.0 c.args.way c.requires.was.1 c.args.meaning (meaning.Unmake c.in-Unmake.table) c.requires.was.2 c.requires.was.3 (sym c.meaning.view_is ∙ c.in-Unmake.is) is))
     (c.made_ready-in-Unmake.ensures.goes ok_line c.ok_line-in-Unmake.ensures)
+
+pub prepare_job-requires-clause-comes : goal.prepare_job-requires-clause-comes
+prepare_job-requires-clause-comes g c =
+    comes-job g.D.Shelf.told (g.W.Actor.house c.args.actor.now) c.requires.was.0 c.args.way c.requires.was.1 c.args.meaning c.in-Ask.table c.in-Ask.partition c.in-Ask.kind c.requires.was.2 c.requires.was.3 (sym c.meaning.view_is ∙ c.in-Ask.is)
+
+pub returns-in-Ask-clause-goes : goal.returns-in-Ask-clause-goes
+returns-in-Ask-clause-goes g c =
+    let a = g.W.Actor.house c.args.actor.now in
+    let b = g.W.Actor.house c.prepare_job.new.actor in
+    let own = g.W.Actor.own c.args.actor.now in
+    let own' = g.W.Actor.own c.prepare_job.new.actor in
+    let low = faults_in g.D.Shelf.faults a in
+    subst (λ (m : Meaning). Goes (among g.D.Shelf.told g.D.Shelf.faults g.W.Actor.between g.W.Actor.meanwhile) low c.args.way.txn.0 (known own a) (known own' b)
+    (Prepares c.args.way.txn.0 b m) c.prepare_job.result)
+    (sym (sym c.meaning.view_is ∙ c.in-Ask.is)) c.prepare_job.ensures.goes
 
 pub withdraw-requires-clause-small : goal.withdraw-requires-clause-small
 withdraw-requires-clause-small g c =
@@ -259,5 +274,5 @@ returns-clause-can g c =
     let low = faults_in g.D.Shelf.faults a in
     idle-concludes g.D.Shelf.told g.D.Shelf.faults g.W.Actor.between g.met.W.Actor.rows g.W.Actor.meanwhile c.args.way.txn.0 low own own' a b c.args.way c.nothing-in-Plain.result ok_line c.made_ready-in-Plain.result c.nothing-in-Plain.ensures
     (idle-can g.D.Shelf.told a c.args.way meaning.Plain ok_line refl refl (comes-asked g.D.Shelf.told a c.requires.was.0 c.args.way c.requires.was.1 c.args.meaning (meaning.Plain) c.requires.was.2 c.requires.was.3 (sym c.meaning.view_is ∙ c.in-Plain.is)
-    (subst (HasAskedAll (trail_in a) c.args.way.txn c.args.way.place c.requires.was.1) (sym c.meaning.view_is ∙ c.in-Plain.is) c.requires.was.4)))
+    (subst (HasPassedAll (trail_in a) c.args.way.txn c.args.way.place c.requires.was.1) (sym c.meaning.view_is ∙ c.in-Plain.is) c.requires.was.4)))
     (c.made_ready-in-Plain.ensures.goes ok_line c.ok_line-in-Plain.ensures)

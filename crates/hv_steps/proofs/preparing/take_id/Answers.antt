@@ -2,6 +2,9 @@ use Rattle.hv_steps.proofs.IdActs.{can-give, give-adds, give-left, give-ends, gi
 use Rattle.hv_table_reader.specs.hv_acts.specs.Told.{trail_in}
 use Rattle.hv_steps.proofs.preparing.take_id.Goals as goal
 
+pub hold-requires-clause-few : goal.hold-requires-clause-few
+hold-requires-clause-few g c = g.met.W.Actor.one
+
 pub hold-requires-clause-can : goal.hold-requires-clause-can
 hold-requires-clause-can g c = λ now kept reached is.
     can-give g.D.Shelf.told g.D.Shelf.faults g.W.Actor.meanwhile g.met.W.Actor.goes_on (g.W.Actor.house c.args.actor.now) now c.args.way c.args.info.now c.args.effect.now

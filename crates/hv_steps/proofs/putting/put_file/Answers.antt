@@ -2,6 +2,9 @@ use Rattle.hv_steps.proofs.IdActs.{left-open}
 use Rattle.hv_steps.proofs.FileActs.{can-put, put-adds, put-left, put-encoded, put-refused}
 use Rattle.hv_steps.proofs.putting.put_file.Goals as goal
 
+pub hold-requires-clause-few : goal.hold-requires-clause-few
+hold-requires-clause-few g c = g.met.W.Actor.one
+
 pub hold-requires-clause-can : goal.hold-requires-clause-can
 hold-requires-clause-can g c = λ now kept reached.
     can-put g.D.Shelf.told g.D.Shelf.faults g.W.Actor.meanwhile g.met.W.Actor.goes_on (g.W.Actor.house c.args.actor.now) now c.args.txn c.args.place c.args.file.now

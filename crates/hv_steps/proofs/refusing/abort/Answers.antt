@@ -10,6 +10,9 @@ use Rattle.hv_steps.proofs.Joining.{held-adds, act-left, act-risen, why-now, ans
 use Rattle.hv_steps.proofs.Aborts.{book-added, abort-replied, uncommitted-own}
 use Rattle.hv_steps.proofs.refusing.abort.Goals as goal
 
+pub hold-requires-clause-few : goal.hold-requires-clause-few
+hold-requires-clause-few g c = g.met.W.Actor.one
+
 pub hold-requires-clause-can : goal.hold-requires-clause-can
 hold-requires-clause-can g c = λ house kept reached.
     let before = g.W.Actor.house c.args.actor.now in

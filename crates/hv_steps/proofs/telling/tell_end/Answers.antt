@@ -1,6 +1,9 @@
 use Rattle.hv_steps.proofs.Gone.{end-adds, end-running, end-says, end-house, failed-adds, failed-halts}
 use Rattle.hv_steps.proofs.telling.tell_end.Goals as goal
 
+pub hold-requires-clause-few : goal.hold-requires-clause-few
+hold-requires-clause-few g c = g.met.W.Actor.one
+
 pub house_fault-requires : goal.house_fault-requires
 house_fault-requires g c = record {
   house =

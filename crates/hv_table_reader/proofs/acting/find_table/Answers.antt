@@ -3,6 +3,9 @@ use Rattle.hv_table_reader.proofs.Holds.{asked-done, asked-failed}
 use Rattle.hv_table_reader.proofs.Acts.{place-reached, find-book, find-found}
 use Rattle.hv_table_reader.proofs.acting.find_table.Goals as goal
 
+pub hold-requires-clause-few : goal.hold-requires-clause-few
+hold-requires-clause-few g c = g.met.W.Actor.one
+
 pub hold-requires-clause-can : goal.hold-requires-clause-can
 hold-requires-clause-can g c = λ house kept reached.
     place-reached g.D.Shelf.told g.D.Shelf.faults g.W.Actor.meanwhile g.met.W.Actor.goes_on (g.W.Actor.house c.args.actor.now) c.args.place c.requires.place house reached

@@ -3,6 +3,9 @@ use Rattle.hv_table_reader.proofs.Holds.{got, ungot}
 use Rattle.hv_table_reader.proofs.Acts.{got-then, missed-then}
 use Rattle.hv_table_reader.proofs.acting.get_file.Goals as goal
 
+pub hold-requires-clause-few : goal.hold-requires-clause-few
+hold-requires-clause-few g c = g.met.W.Actor.one
+
 pub returns-in-Ok-clause-looks : goal.returns-in-Ok-clause-looks
 returns-in-Ok-clause-looks g c =
     got g.D.Shelf.told g.D.Shelf.faults g.W.Actor.between g.W.Actor.meanwhile g.met.W.Actor.goes_on (g.W.Actor.own c.args.actor.now) (g.W.Actor.own c.hold.new.self)

@@ -14,12 +14,12 @@ check_counts-requires g c =
 pub returns-in_err-check_counts-clause-damage : goal.returns-in_err-check_counts-clause-damage
 returns-in_err-check_counts-clause-damage g c = λ o steady.
     let why = c.in_err-check_counts.field-0.0 in
-    err-up (λ w. Tells o (λ s. TellsKind false c.args.info.now.table.0 s.tree c.args.taken.now c.args.taken.now c.args.dues.now w)) c.from_residual-in_err-check_counts.result why
+    err-up (λ w. Tells o (λ s. TellsKind false c.args.info.now.table.0 s.tree c.args.taken.now c.args.asked c.args.dues.now w)) c.from_residual-in_err-check_counts.result why
     c.from_residual-in_err-check_counts.ensures.1
-    (kind-told o false c.args.info.now.table.0 c.args.taken.now c.args.taken.now c.deref.result.now c.args.dues.now why
-    (subst (CountsUpTo o false c.args.taken.now) (sym c.deref.ensures.value) (c.in_ok-rows.ensures.counts o steady)) c.in_err-check_counts.ensures.told c.in_err-check_counts.ensures.own)
+    (kind-told o false c.args.info.now.table.0 c.args.taken.now c.args.asked c.deref.result.now c.args.dues.now why
+    (subst (CountsUpTo o false c.args.taken.now) (sym c.deref.ensures.value) (c.in_ok-rows.ensures.counts o steady)) c.in_err-check_counts.ensures.told c.in_err-check_counts.ensures.asks)
 
 pub returns-clause-counted : goal.returns-clause-counted
 returns-clause-counted g c = λ o steady.
-    kind-counted o false c.args.taken.now c.args.taken.now c.deref.result.now c.args.dues.now
+    kind-counted o false c.args.taken.now c.args.asked c.deref.result.now c.args.dues.now
     (subst (CountsUpTo o false c.args.taken.now) (sym c.deref.ensures.value) (c.in_ok-rows.ensures.counts o steady)) c.in_ok-check_counts.ensures.counted

@@ -1,5 +1,5 @@
 use Rattle.std.proofs.Common.{ap, arith}
-use Rattle.hv_book.specs.Past.{total}
+use Rattle.hv_earlier.specs.hv_meta.specs.hv_book.specs.Past.{total}
 use Rattle.hv_tallies.proofs.covering.covered.Goals as goal
 
 pub returns : goal.returns

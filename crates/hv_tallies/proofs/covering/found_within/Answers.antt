@@ -1,5 +1,5 @@
 use Rattle.std.proofs.Common.{subst}
-use Rattle.hv_history.specs.State.{state_of}
+use Rattle.hv_jobs.specs.hv_history.specs.State.{state_of}
 use Rattle.hv_tallies.specs.Walks.{IsTally}
 use Rattle.hv_tallies.specs.Covered.{reach_within}
 use Rattle.hv_tallies.proofs.CoveredLemmas.{inserted-is, deleted-is}

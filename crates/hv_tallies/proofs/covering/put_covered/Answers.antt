@@ -1,5 +1,5 @@
 use Rattle.std.proofs.Common.{ap, ◌∙◌}
-use Rattle.hv_history.specs.State.{state_of, numbered}
+use Rattle.hv_jobs.specs.hv_history.specs.State.{state_of, numbered}
 use Rattle.hv_tallies.proofs.NoteLemmas.{job-some, job-none}
 use Rattle.hv_tallies.proofs.CoveredLemmas.{then-ok}
 use Rattle.hv_tallies.proofs.covering.put_covered.Goals as goal

@@ -1,9 +1,9 @@
 use Rattle.std.proofs.Common.{◌≡◌, ◌-◌, suc, length, map, take, refl, sym, ap, ◌∙◌, subst, arith}
 use Rattle.std.proofs.lemmas.Option.{slice_get_read}
-use Rattle.hv_history.specs.State.{state_of}
+use Rattle.hv_jobs.specs.hv_history.specs.State.{state_of}
 use Rattle.hv_ids.specs.Ids.{table_of}
 use Rattle.hv_links.specs.Links.{before_of}
-use Rattle.hv_book.specs.Past.{total, ended_weight}
+use Rattle.hv_earlier.specs.hv_meta.specs.hv_book.specs.Past.{total, ended_weight}
 use Rattle.hv_earlier.proofs.WalkLaws.{IsStop, stop-start, stop-step}
 use Rattle.hv_tallies.specs.Covered.{names_at, names_weight}
 use Rattle.hv_tallies.proofs.CoveredLemmas.{put-total, back-start, back-step}

@@ -1,7 +1,7 @@
 use Rattle.std.proofs.Common.{◌≡◌, ◌+◌, ◌≤◌, ℕ, length, take}
 use Rattle.hv_dirs.specs.declared.names.DirName.{DirName}
-use Rattle.hv_history.specs.State.{state_of}
-use Rattle.hv_book.specs.Past.{total, ended_weight}
+use Rattle.hv_jobs.specs.hv_history.specs.State.{state_of}
+use Rattle.hv_earlier.specs.hv_meta.specs.hv_book.specs.Past.{total, ended_weight}
 use Rattle.hv_earlier.proofs.WalkLaws.{IsStop}
 use Rattle.hv_tallies.specs.Covered.{names_weight}
 use Rattle.hv_tallies.proofs.covering.put_ended.Given as goal

@@ -1,4 +1,4 @@
-use Rattle.hv_history.specs.State.{state_of}
+use Rattle.hv_jobs.specs.hv_history.specs.State.{state_of}
 use Rattle.hv_tallies.proofs.CoveredLemmas.{then-ok, put-as, put-none, names-some, names-none}
 use Rattle.hv_tallies.proofs.covering.put_id.Goals as goal
 

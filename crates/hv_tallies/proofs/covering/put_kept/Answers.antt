@@ -1,10 +1,10 @@
 use Rattle.std.proofs.Common.{map, ap, arith}
 use Rattle.std.specs.List.{flat_map}
-use Rattle.hv_history.specs.State.{state_of}
-use Rattle.hv_history.specs.Jobs.{events_in}
-use Rattle.hv_book.specs.Briefs.{brief_job}
-use Rattle.hv_book.specs.Past.{total, past_in}
-use Rattle.hv_book.proofs.IdLaws.{total-append}
+use Rattle.hv_jobs.specs.hv_history.specs.State.{state_of}
+use Rattle.hv_jobs.specs.hv_history.specs.Jobs.{events_in}
+use Rattle.hv_earlier.specs.hv_meta.specs.hv_book.specs.Briefs.{brief_job}
+use Rattle.hv_earlier.specs.hv_meta.specs.hv_book.specs.Past.{total, past_in}
+use Rattle.hv_earlier.specs.hv_meta.specs.hv_book.proofs.IdLaws.{total-append}
 use Rattle.hv_tallies.specs.Covered.{own_kept, names_at, made_kept, names_weight}
 use Rattle.hv_tallies.proofs.CoveredLemmas.{put-total, all-own}
 use Rattle.hv_tallies.proofs.covering.put_kept.Goals as goal

@@ -1,8 +1,8 @@
 use Rattle.std.proofs.Common.{ap, ◌∙◌, arith}
-use Rattle.hv_history.specs.State.{state_of}
-use Rattle.hv_book.specs.declared.jobs.JobNote.{JobNote}
-use Rattle.hv_book.specs.Past.{total}
-use Rattle.hv_book.proofs.IdLaws.{all-numbered}
+use Rattle.hv_jobs.specs.hv_history.specs.State.{state_of}
+use Rattle.hv_earlier.specs.hv_meta.specs.hv_book.specs.declared.jobs.JobNote.{JobNote}
+use Rattle.hv_earlier.specs.hv_meta.specs.hv_book.specs.Past.{total}
+use Rattle.hv_earlier.specs.hv_meta.specs.hv_book.proofs.IdLaws.{all-numbered}
 use Rattle.hv_tallies.specs.Jobs.{asked_at}
 use Rattle.hv_tallies.proofs.AskedLemmas.{IsAskedThere, all-asked}
 use Rattle.hv_tallies.proofs.CoveredLemmas.{then-ok, no-partition, partition-is, kept-covered}

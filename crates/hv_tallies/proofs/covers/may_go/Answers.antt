@@ -1,5 +1,5 @@
 use Rattle.std.proofs.Common.{ap, ◌∙◌}
-use Rattle.hv_history.specs.State.{state_of, numbered}
+use Rattle.hv_jobs.specs.hv_history.specs.State.{state_of, numbered}
 use Rattle.hv_tallies.specs.Covered.{covers_note}
 use Rattle.hv_tallies.proofs.NoteLemmas.{job-some, job-none, covers-same}
 use Rattle.hv_tallies.proofs.covers.may_go.Goals as goal

@@ -1,6 +1,6 @@
 use Rattle.std.proofs.Common.{Some, None, fold, ap, ◌∙◌}
-use Rattle.hv_history.specs.State.{state_of}
-use Rattle.hv_history.specs.Jobs.{events_if}
+use Rattle.hv_jobs.specs.hv_history.specs.State.{state_of}
+use Rattle.hv_jobs.specs.hv_history.specs.Jobs.{events_if}
 use Rattle.hv_tallies.specs.Tallies.{noted_open, tallied}
 use Rattle.hv_tallies.proofs.EventLemmas.{visit-is}
 use Rattle.hv_tallies.proofs.events.visit.Goals as goal

@@ -1,6 +1,6 @@
 use Rattle.std.proofs.Common.{ap, ◌∙◌}
-use Rattle.hv_history.specs.State.{state_of, numbered}
-use Rattle.hv_book.specs.Notes.{is_open_note}
+use Rattle.hv_jobs.specs.hv_history.specs.State.{state_of, numbered}
+use Rattle.hv_earlier.specs.hv_meta.specs.hv_book.specs.Notes.{is_open_note}
 use Rattle.hv_tallies.proofs.NoteLemmas.{open-same}
 use Rattle.hv_tallies.proofs.open_ids.is_open.Goals as goal
 

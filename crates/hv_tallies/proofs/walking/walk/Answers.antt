@@ -1,6 +1,6 @@
 use Rattle.std.proofs.Common.{fold, ◌∙◌}
-use Rattle.hv_history.specs.State.{state_of}
-use Rattle.hv_book.specs.Past.{past_in}
+use Rattle.hv_jobs.specs.hv_history.specs.State.{state_of}
+use Rattle.hv_earlier.specs.hv_meta.specs.hv_book.specs.Past.{past_in}
 use Rattle.hv_tallies.specs.Tallies.{visited}
 use Rattle.hv_tallies.proofs.WalkLemmas.{all-walked}
 use Rattle.hv_tallies.proofs.walking.walk.Goals as goal

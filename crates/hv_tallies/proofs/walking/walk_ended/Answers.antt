@@ -1,6 +1,6 @@
 use Rattle.std.proofs.Common.{◌≡◌, ◌-◌, suc, length, map, refl, ap, ◌∙◌, subst, arith}
 use Rattle.std.proofs.lemmas.Option.{slice_get_read}
-use Rattle.hv_history.specs.State.{state_of}
+use Rattle.hv_jobs.specs.hv_history.specs.State.{state_of}
 use Rattle.hv_ids.specs.Ids.{table_of}
 use Rattle.hv_links.specs.Links.{before_of}
 use Rattle.hv_tallies.specs.Tallies.{visited}

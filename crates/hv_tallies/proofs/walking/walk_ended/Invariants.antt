@@ -1,4 +1,4 @@
-use Rattle.hv_history.specs.State.{state_of}
+use Rattle.hv_jobs.specs.hv_history.specs.State.{state_of}
 use Rattle.hv_tallies.specs.Tallies.{visited}
 use Rattle.hv_tallies.proofs.WalkLemmas.{IsWalking}
 use Rattle.hv_tallies.proofs.walking.walk_ended.Given as goal

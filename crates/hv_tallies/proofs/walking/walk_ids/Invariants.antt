@@ -1,5 +1,5 @@
 use Rattle.std.proofs.Common.{◌≡◌, drop, fold}
-use Rattle.hv_history.specs.State.{state_of}
+use Rattle.hv_jobs.specs.hv_history.specs.State.{state_of}
 use Rattle.hv_tallies.specs.Tallies.{visited}
 use Rattle.hv_tallies.proofs.walking.walk_ids.Given as goal
 

@@ -1,4 +1,3 @@
-use Rattle.std.proofs.Common.{[]}
 use Rattle.hv_telling.proofs.Noting.{same-start, begin-whole, begin-stays, begin-opens}
 use Rattle.hv_telling.proofs.telling.begin.Goals as goal
 
@@ -19,4 +18,4 @@ returns-clause-opens g c =
 
 pub returns-clause-start : goal.returns-clause-start
 returns-clause-start g c =
-    same-start g.D.Shelf.told g.D.Shelf.faults _ [] c.args.house.now c.begin.new.self _ c.begin.ensures.step
+    same-start g.D.Shelf.told g.D.Shelf.faults _ c.args.house.now c.begin.new.self _ c.begin.ensures.step

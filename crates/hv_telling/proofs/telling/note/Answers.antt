@@ -1,4 +1,3 @@
-use Rattle.std.proofs.Common.{[]}
 use Rattle.hv_trail.specs.Steps.{Note}
 use Rattle.hv_telling.proofs.Noting.{same-start, note-whole, note-stays, note-opens}
 use Rattle.hv_telling.proofs.telling.note.Goals as goal
@@ -20,4 +19,4 @@ returns-clause-opens g c =
 
 pub returns-clause-start : goal.returns-clause-start
 returns-clause-start g c =
-    same-start g.D.Shelf.told g.D.Shelf.faults (Note c.args.entry) [] c.args.house.now c.note.new.self _ c.note.ensures.step
+    same-start g.D.Shelf.told g.D.Shelf.faults (Note c.args.entry) c.args.house.now c.note.new.self _ c.note.ensures.step

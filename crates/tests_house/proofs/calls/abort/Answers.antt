@@ -1,5 +1,5 @@
 use Rattle.std.proofs.Common.{rules}
-use Rattle.hv_house.specs.House.{entries_of}
+use Rattle.hv_session.specs.hv_beginning.specs.hv_steps.specs.hv_table_reader.specs.hv_acts.specs.hv_telling.specs.hv_house.specs.House.{entries_of}
 use Rattle.tests_house.proofs.Facts.{short_memory}
 use Rattle.tests_house.proofs.Rooms.{can_abort, refused_open}
 use Rattle.tests_house.proofs.calls.abort.Goals as goal

@@ -1,6 +1,6 @@
 use Rattle.std.proofs.Common.{rules, refl}
 use Rattle.hv_history.specs.Legal.{FullFits}
-use Rattle.hv_house.specs.House.{entries_of}
+use Rattle.hv_session.specs.hv_beginning.specs.hv_steps.specs.hv_table_reader.specs.hv_acts.specs.hv_telling.specs.hv_house.specs.House.{entries_of}
 use Rattle.tests_house.proofs.Facts.{short_full}
 use Rattle.tests_house.proofs.Rooms.{if_open, refused_open}
 use Rattle.tests_house.proofs.calls.abort_full.Goals as goal

@@ -2,7 +2,7 @@ use Rattle.std.proofs.Common.{rules, List, length, ap, ◌∙◌}
 use Rattle.std.proofs.lemmas.List.{length-map}
 use Rattle.hv_history.specs.State.{state_of}
 use Rattle.hv_book.specs.Briefs.{brief_table}
-use Rattle.hv_house.specs.House.{entries_of}
+use Rattle.hv_session.specs.hv_beginning.specs.hv_steps.specs.hv_table_reader.specs.hv_acts.specs.hv_telling.specs.hv_house.specs.House.{entries_of}
 use Rattle.tests_house.proofs.Rooms.{can_create, refused_open}
 use Rattle.tests_house.proofs.calls.create.Goals as goal
 

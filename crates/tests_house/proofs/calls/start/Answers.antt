@@ -3,7 +3,7 @@ use Rattle.hv_history.specs.declared.entry.Entry.{Entry}
 use Rattle.hv_history.specs.State.{state_of}
 use Rattle.hv_fits.specs.Texts.{TextsRun}
 use Rattle.hv_fits.proofs.LockLemmas.{texts-run}
-use Rattle.hv_house.specs.House.{entries_of}
+use Rattle.hv_session.specs.hv_beginning.specs.hv_steps.specs.hv_table_reader.specs.hv_acts.specs.hv_telling.specs.hv_house.specs.House.{entries_of}
 use Rattle.tests_house.proofs.Rooms.{can_start, refused_open}
 use Rattle.tests_house.proofs.calls.start.Goals as goal
 

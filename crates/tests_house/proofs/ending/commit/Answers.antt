@@ -2,7 +2,7 @@ use Rattle.std.proofs.Common.{rules, List, subst}
 use Rattle.hv_base.specs.declared.ids.Touch.{Touch}
 use Rattle.hv_history.specs.State.{state_of}
 use Rattle.hv_history.specs.Legal.{Of, CommitFits}
-use Rattle.hv_house.specs.House.{entries_of}
+use Rattle.hv_session.specs.hv_beginning.specs.hv_steps.specs.hv_table_reader.specs.hv_acts.specs.hv_telling.specs.hv_house.specs.House.{entries_of}
 use Rattle.tests_house.proofs.Rooms.{if_open, refused_open}
 use Rattle.tests_house.proofs.ending.commit.Goals as goal
 

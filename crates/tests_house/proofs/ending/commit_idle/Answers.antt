@@ -1,6 +1,6 @@
 use Rattle.std.proofs.Common.{inl, sym, ◌∙◌, subst}
 use Rattle.hv_history.specs.declared.entry.Entry.TheVariants as entry
-use Rattle.hv_house.specs.House.{IsSmall}
+use Rattle.hv_session.specs.hv_beginning.specs.hv_steps.specs.hv_table_reader.specs.hv_acts.specs.hv_telling.specs.hv_house.specs.House.{IsSmall}
 use Rattle.tests_house.proofs.Facts.{short_idle}
 use Rattle.tests_house.proofs.ending.commit_idle.Goals as goal
 

@@ -1,5 +1,5 @@
 use Rattle.hv_trail.specs.Kept.{trail_of}
-use Rattle.hv_house.specs.House.{entries_of}
+use Rattle.hv_session.specs.hv_beginning.specs.hv_steps.specs.hv_table_reader.specs.hv_acts.specs.hv_telling.specs.hv_house.specs.House.{entries_of}
 use Rattle.tests_house.proofs.Facts.{short_change}
 use Rattle.tests_house.proofs.Commits.{can_commit}
 use Rattle.tests_house.proofs.ending.commit_put.Goals as goal

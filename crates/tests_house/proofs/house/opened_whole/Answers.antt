@@ -1,4 +1,4 @@
-use Rattle.hv_house.proofs.Hards.{opened_shuts}
+use Rattle.hv_session.specs.hv_beginning.specs.hv_steps.specs.hv_table_reader.specs.hv_acts.specs.hv_telling.specs.hv_house.proofs.Hards.{opened_shuts}
 use Rattle.tests_house.proofs.house.opened_whole.Goals as goal
 
 pub returns-in-Ok : goal.returns-in-Ok

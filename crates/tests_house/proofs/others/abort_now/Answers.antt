@@ -1,14 +1,17 @@
 use Rattle.hv_history.specs.declared.entry.Entry.TheVariants as entry
 use Rattle.hv_history.specs.declared.entry.Cause.TheVariants as cause
 use Rattle.hv_actor.specs.Acting.{Untouched}
-use Rattle.hv_actor.specs.Rows.{untouched_goes_on}
-use Rattle.hv_session.specs.hv_steps.specs.hv_table_reader.specs.hv_acts.specs.Told.{seen_in}
-use Rattle.hv_session.specs.hv_steps.proofs.Shorts.{short_memory}
-use Rattle.hv_session.specs.hv_steps.proofs.Joining.{held-later, note-ends, ends-rise, act-risen}
+use Rattle.hv_actor.specs.Rows.{untouched_goes_on, one_of_two}
+use Rattle.hv_session.specs.hv_beginning.specs.hv_steps.specs.hv_table_reader.specs.hv_acts.specs.Told.{seen_in}
+use Rattle.hv_session.specs.hv_beginning.specs.hv_steps.proofs.Shorts.{short_memory}
+use Rattle.hv_session.specs.hv_beginning.specs.hv_steps.proofs.Joining.{held-later, note-ends, ends-rise, act-risen}
 use Rattle.tests_house.proofs.others.abort_now.Goals as goal
 
 pub hold-requires-clause-can : goal.hold-requires-clause-can
 hold-requires-clause-can g c = λ house kept reached. (short_memory c.args.txn.0, tt, λ told. tt, tt)
+
+pub hold-requires-clause-few : goal.hold-requires-clause-few
+hold-requires-clause-few g c = one_of_two
 
 pub returns-clause-later : goal.returns-clause-later
 returns-clause-later g c =

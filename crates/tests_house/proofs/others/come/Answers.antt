@@ -1,5 +1,5 @@
 use Rattle.hv_actor.specs.Rows.{later_itself}
-use Rattle.hv_session.specs.hv_steps.specs.hv_table_reader.specs.hv_acts.specs.Told.{seen_in}
+use Rattle.hv_session.specs.hv_beginning.specs.hv_steps.specs.hv_table_reader.specs.hv_acts.specs.Told.{seen_in}
 use Rattle.tests_house.proofs.others.come.Goals as goal
 
 pub loop-next-init : goal.loop-next-init

@@ -1,5 +1,5 @@
 use Rattle.hv_actor.specs.Acting.{IsLater}
-use Rattle.hv_session.specs.hv_steps.specs.hv_table_reader.specs.hv_acts.specs.Told.{seen_in}
+use Rattle.hv_session.specs.hv_beginning.specs.hv_steps.specs.hv_table_reader.specs.hv_acts.specs.Told.{seen_in}
 use Rattle.tests_house.specs.Keeping.{IsAsKept}
 use Rattle.tests_house.proofs.others.come.Given as goal
 

@@ -1,5 +1,5 @@
 use Rattle.std.proofs.Common.{[], map, sym, ap, ◌∙◌, arith, subst}
-use Rattle.hv_history.specs.Book.{tree_of_entry}
+use Rattle.hv_book.specs.Said.{said_of_entry}
 use Rattle.hv_history.specs.State.{state_of}
 use Rattle.hv_book.specs.Notes.{Notes, notes_of}
 use Rattle.hv_book.specs.Names.{IsNamed}
@@ -12,7 +12,7 @@ use Rattle.hv_book.proofs.book.Book.new.Goals as goal
 
 pub invariant_of-result : goal.invariant_of-result
 invariant_of-result c = record {
-  tree = c.new-2.ensures.items ∙ ap (map tree_of_entry) (sym c.new.ensures.items);
+  tree = c.new-2.ensures.items ∙ ap (map said_of_entry) (sym c.new.ensures.items);
   notes = c.new-3.ensures.notes ∙ ap notes_of (sym c.new.ensures.items);
   opening = c.new-4.ensures.openings ∙ ap (λ xs. (state_of xs).openings) (sym c.new.ensures.items);
   opened =

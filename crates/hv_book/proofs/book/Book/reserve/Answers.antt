@@ -1,5 +1,5 @@
 use Rattle.std.proofs.Common.{map, sym, ap, ◌∙◌, arith, subst}
-use Rattle.hv_history.specs.Book.{tree_of_entry}
+use Rattle.hv_book.specs.Said.{said_of_entry}
 use Rattle.hv_history.specs.State.{state_of}
 use Rattle.hv_book.specs.Notes.{Notes, notes_of}
 use Rattle.hv_book.specs.Names.{IsNamed}
@@ -9,7 +9,7 @@ use Rattle.hv_book.proofs.book.Book.reserve.Goals as goal
 
 pub invariant_of-self-2 : goal.invariant_of-self-2
 invariant_of-self-2 c = record {
-  tree = c.in_ok-reserve-2.ensures.items ∙ c.self.invariant.tree ∙ ap (map tree_of_entry) (sym c.in_ok-reserve.ensures.items);
+  tree = c.in_ok-reserve-2.ensures.items ∙ c.self.invariant.tree ∙ ap (map said_of_entry) (sym c.in_ok-reserve.ensures.items);
   notes = c.reserve-6.ensures.notes ∙ c.self.invariant.notes ∙ ap notes_of (sym c.in_ok-reserve.ensures.items);
   opening =
       ap (λ kept. record { count = c.self.inside.openings.count; last = c.self.inside.openings.last; only_lost = c.self.inside.openings.only_lost; kept = kept }) c.in_ok-reserve-3.ensures.items
@@ -47,7 +47,7 @@ invariant_of-self-2 c = record {
 
 pub invariant_of-self-in_err-reserve-4 : goal.invariant_of-self-in_err-reserve-4
 invariant_of-self-in_err-reserve-4 c = record {
-  tree = c.in_ok-reserve-2.ensures.items ∙ c.self.invariant.tree ∙ ap (map tree_of_entry) (sym c.in_ok-reserve.ensures.items);
+  tree = c.in_ok-reserve-2.ensures.items ∙ c.self.invariant.tree ∙ ap (map said_of_entry) (sym c.in_ok-reserve.ensures.items);
   notes = c.self.invariant.notes ∙ ap notes_of (sym c.in_ok-reserve.ensures.items);
   opening =
       ap (λ kept. record { count = c.self.inside.openings.count; last = c.self.inside.openings.last; only_lost = c.self.inside.openings.only_lost; kept = kept }) c.in_ok-reserve-3.ensures.items
@@ -68,7 +68,7 @@ invariant_of-self-in_err-reserve-4 c = record {
 
 pub invariant_of-self-in_err-reserve-5 : goal.invariant_of-self-in_err-reserve-5
 invariant_of-self-in_err-reserve-5 c = record {
-  tree = c.in_ok-reserve-2.ensures.items ∙ c.self.invariant.tree ∙ ap (map tree_of_entry) (sym c.in_ok-reserve.ensures.items);
+  tree = c.in_ok-reserve-2.ensures.items ∙ c.self.invariant.tree ∙ ap (map said_of_entry) (sym c.in_ok-reserve.ensures.items);
   notes = c.self.invariant.notes ∙ ap notes_of (sym c.in_ok-reserve.ensures.items);
   opening =
       ap (λ kept. record { count = c.self.inside.openings.count; last = c.self.inside.openings.last; only_lost = c.self.inside.openings.only_lost; kept = kept }) c.in_ok-reserve-3.ensures.items

@@ -27,7 +27,8 @@ returns-in_ok-push-in-Ok-2-clause-noted g c =
     (c.in_ok-push-in-Ok-2.ensures.ok
     ∙ ap (λ b. b ++ start ∷ []) (c.in_ok-push-in-Ok.ensures.ok ∙ ap (λ b. b ++ c.args.entry ∷ []) c.in-Ok.ensures.entries)
     ∙ append_assoc (entries_of c.args.self.now) (c.args.entry ∷ []) (start ∷ []))
-    c.in-Ok.ensures.place c.in-Ok.ensures.journal (c.push-in-Ok.ensures.closed ∙ c.push.ensures.closed ∙ c.in-Ok.ensures.running) c.in-Ok.ensures.tree
+    c.in-Ok.ensures.place c.in-Ok.ensures.journal (c.push-in-Ok.ensures.closed ∙ c.push.ensures.closed ∙ c.in-Ok.ensures.running)
+    (c.push-in-Ok.ensures.starved ∙ c.push.ensures.starved ∙ c.in-Ok.ensures.marks.starved) c.in-Ok.ensures.tree
 
 pub returns-in_ok-push-in-Ok-2-clause-trail : goal.returns-in_ok-push-in-Ok-2-clause-trail
 returns-in_ok-push-in-Ok-2-clause-trail g c =

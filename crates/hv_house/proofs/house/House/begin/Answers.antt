@@ -38,7 +38,8 @@ returns-clause-step g c =
     subst (λ (t : TxnId). Step g.D.Shelf.told g.D.Shelf.faults (Begin t c.args.session c.args.number c.args.text) Done (seen_of c.args.self.now) (seen_of c.add_with_start.new.self)) same
     (step-noted g.D.Shelf.told g.D.Shelf.faults (Begin txn c.args.session c.args.number c.args.text) (begun txn c.args.session c.args.number c.args.text)
     (noting-begun txn c.args.session c.args.number c.args.text) c.args.self.now c.add_with_start.new.self c.requires.1.0.kept.running
-    c.in_ok-add_with_start.ensures.marks.start c.in_ok-add_with_start.ensures.marks.left c.in_ok-add_with_start.ensures.marks.limits c.in_ok-add_with_start.ensures.noted.tree
+    c.in_ok-add_with_start.ensures.marks.start c.in_ok-add_with_start.ensures.marks.left c.in_ok-add_with_start.ensures.marks.limits
+    c.in_ok-add_with_start.ensures.marks.starved c.in_ok-add_with_start.ensures.noted.tree
     c.in_ok-add_with_start.ensures.cause.later c.in_ok-add_with_start.ensures.noted c.in_ok-add_with_start.ensures.trail
     c.in_ok-add_with_start.ensures.running)
 
@@ -54,7 +55,8 @@ returns-in_err-add_with_start-clause-step g c =
     left.0 c.args.self.now c.add_with_start.new.self left.1 fault
     (step-halted g.D.Shelf.told g.D.Shelf.faults (Begin txn c.args.session c.args.number c.args.text) (begun txn c.args.session c.args.number c.args.text)
     (noting-begun txn c.args.session c.args.number c.args.text) c.args.self.now c.add_with_start.new.self c.requires.1.0.kept.running
-    c.in_err-add_with_start.ensures.marks.start c.in_err-add_with_start.ensures.marks.left c.in_err-add_with_start.ensures.marks.limits c.in_err-add_with_start.ensures.halted.tree
+    c.in_err-add_with_start.ensures.marks.start c.in_err-add_with_start.ensures.marks.left c.in_err-add_with_start.ensures.marks.limits
+    c.in_err-add_with_start.ensures.marks.starved c.in_err-add_with_start.ensures.halted.tree
     c.in_err-add_with_start.ensures.cause.later c.in_err-add_with_start.field-0.0
     (same-trail c.args.self.now c.add_with_start.new.self c.in_err-add_with_start.ensures.halted.entries c.in_err-add_with_start.ensures.marks.marks)
     c.in_err-add_with_start.ensures.closed c.in_err-add_with_start.ensures.halted.leaves))

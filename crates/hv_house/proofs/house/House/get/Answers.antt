@@ -3,7 +3,7 @@ use Rattle.std.specs.Global.{Vec}
 use Rattle.hv_trail.specs.declared.trail.Reader.TheVariants.{Txn}
 use Rattle.hv_house.proofs.Hards.{still_step}
 use Rattle.hv_house.proofs.Listings.{needed-got, needed-found}
-use Rattle.hv_house.proofs.Reading.{step-unasked}
+use Rattle.hv_house.proofs.Readings.{step-unasked}
 use Rattle.hv_house.proofs.house.House.get.Goals as goal
 
 pub returns-in-Some-clause-step : goal.returns-in-Some-clause-step

@@ -1,7 +1,7 @@
 use Rattle.std.proofs.Common.{Some}
 use Rattle.hv_trail.specs.declared.trail.Reader.TheVariants.{Txn}
 use Rattle.hv_house.proofs.Hards.{still_step}
-use Rattle.hv_house.proofs.Reading.{step-unasked}
+use Rattle.hv_house.proofs.Readings.{step-unasked}
 use Rattle.hv_house.proofs.house.House.list.Goals as goal
 
 pub returns-in-Some-clause-step : goal.returns-in-Some-clause-step

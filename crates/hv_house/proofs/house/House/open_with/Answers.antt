@@ -34,7 +34,7 @@ pub returns-in-Ok-clause-raised : goal.returns-in-Ok-clause-raised
 returns-in-Ok-clause-raised g c =
     opened-raised g.D.Shelf.told g.D.Shelf.faults g.D.Shelf.hard c.args.book.entries c.args.whole.now c.args.shelf _ c.note_opening.new.self c.args.limits
     c.args.start.value _ c.in-Ok.ensures.step c.over.ensures.entries refl refl c.over.ensures.marks refl c.requires.most c.requires.fit c.requires.room refl refl
-    c.settle.ensures.entries refl c.settle.ensures.closed refl c.settle.ensures.marks c.settle.ensures.opened
+    c.settle.ensures.entries refl c.settle.ensures.closed c.settle.ensures.starved refl c.settle.ensures.marks c.settle.ensures.opened
 
 pub returns-clause-stopped : goal.returns-clause-stopped
 returns-clause-stopped g c =

@@ -1,0 +1,18 @@
+use Rattle.hv_beginning.proofs.Openings.{opened-waits, opens-so}
+use Rattle.hv_beginning.proofs.opening.open_waiting.Goals as goal
+
+pub hold-requires-clause-few : goal.hold-requires-clause-few
+hold-requires-clause-few g c = g.met.W.Actor.one
+
+pub returns-clause-waits : goal.returns-clause-waits
+returns-clause-waits g c =
+    opened-waits g.D.Shelf.told g.D.Shelf.faults g.W.Actor.between g.met.W.Actor.rows g.W.Actor.meanwhile g.met.W.Actor.goes_on
+    (g.W.Actor.house c.args.actor.now) (g.W.Actor.house c.hold.new.self)
+    (record { session = c.args.session; number = c.args.number; text = c.args.text }) c.args.tree c.requires.runs c.hold.result c.hold.ensures.held
+
+pub returns-clause-opens : goal.returns-clause-opens
+returns-clause-opens g c = λ first own was.
+    opens-so g.D.Shelf.told g.D.Shelf.faults g.W.Actor.between g.met.W.Actor.rows g.W.Actor.meanwhile g.met.W.Actor.goes_on
+    first (g.W.Actor.house c.args.actor.now) (g.W.Actor.house c.hold.new.self) own (g.W.Actor.own c.args.actor.now) (g.W.Actor.own c.hold.new.self)
+    (record { session = c.args.session; number = c.args.number; text = c.args.text }) c.args.tree c.requires.runs c.requires.running
+    c.hold.result c.hold.ensures.went c.hold.ensures.held was

@@ -1,0 +1,20 @@
+use Rattle.std.proofs.Common.{ap, ◌∙◌}
+use Rattle.hv_history.specs.State.{state_of, numbered}
+use Rattle.hv_book.specs.declared.jobs.JobNote.{JobNote}
+use Rattle.hv_job_calls.proofs.Notes.{by-note, none-job}
+use Rattle.hv_job_calls.proofs.OnOk.{ok-weaker}
+use Rattle.hv_job_acts.proofs.covering.covered_dirs.Goals as goal
+
+pub returns-in-Some : goal.returns-in-Some
+returns-in-Some c =
+    ok-weaker c.covered_noted.result _ _
+    (λ dirs covered j at plain.
+    covered j at
+    (by-note (state_of c.args.book.now.entries).jobs c.args.job.0 c.in-Some.note.now (c.in-Some.ensures ∙ ap (λ ns. numbered ns c.args.job.0) c.jobs.ensures.jobs)
+    (λ (note : JobNote). note) j at)
+    plain)
+    c.covered_noted.ensures
+
+pub returns-in-None : goal.returns-in-None
+returns-in-None c = λ j at plain.
+    none-job (state_of c.args.book.now.entries).jobs c.args.job.0 (c.in-None.ensures ∙ ap (λ ns. numbered ns c.args.job.0) c.jobs.ensures.jobs) j at

@@ -1,0 +1,13 @@
+use Rattle.std.proofs.Common.{sym, ◌∙◌}
+use Rattle.hv_history.specs.declared.entry.Entry.TheVariants as entry
+use Rattle.hv_acts.specs.hv_telling.specs.hv_house.specs.Steps.{seen_of}
+use Rattle.hv_job_acts.proofs.Passed.{shut-note, shut-does}
+use Rattle.hv_job_acts.proofs.ending.GiveUpActToldHouse.act.Goals as goal
+
+pub returns-then-is_closed-clause-step : goal.returns-then-is_closed-clause-step
+returns-then-is_closed-clause-step g c =
+    shut-note g.D.Shelf.told g.D.Shelf.faults (seen_of c.args.house.now.house) (sym c.is_closed.ensures.closed ∙ c.if-is_closed.true) (entry.Failed c.args.self.job c.args.self.cause)
+
+pub returns-then-is_closed-clause-does : goal.returns-then-is_closed-clause-does
+returns-then-is_closed-clause-does g c =
+    shut-does g.D.Shelf.told g.D.Shelf.faults (seen_of c.args.house.now.house) (sym c.is_closed.ensures.closed ∙ c.if-is_closed.true) _

@@ -1,0 +1,19 @@
+use Rattle.std.proofs.Common.{sym, ◌∙◌}
+use Rattle.hv_acts.specs.hv_telling.specs.hv_house.specs.Steps.{seen_of}
+use Rattle.hv_trail.specs.Kept.{trail_of}
+use Rattle.hv_trail.specs.Trail.{book_of}
+use Rattle.hv_job_acts.proofs.Added.{published-adds}
+use Rattle.hv_job_acts.proofs.Passed.{shut-publish, shut-does}
+use Rattle.hv_job_acts.proofs.staging.PublishJobActToldHouse.act.Goals as goal
+
+pub returns-then-is_closed-clause-step : goal.returns-then-is_closed-clause-step
+returns-then-is_closed-clause-step g c =
+    shut-publish g.D.Shelf.told g.D.Shelf.faults (seen_of c.args.house.now.house) (sym c.is_closed.ensures.closed ∙ c.if-is_closed.true) _ _
+
+pub returns-then-is_closed-clause-does : goal.returns-then-is_closed-clause-does
+returns-then-is_closed-clause-does g c =
+    shut-does g.D.Shelf.told g.D.Shelf.faults (seen_of c.args.house.now.house) (sym c.is_closed.ensures.closed ∙ c.if-is_closed.true) _
+
+pub returns-else-is_closed-clause-adds : goal.returns-else-is_closed-clause-adds
+returns-else-is_closed-clause-adds g c =
+    published-adds (book_of (trail_of c.args.house.now.house.trail)) c.args.self.job c.publish_job.result

@@ -1,0 +1,12 @@
+pub mod Places
+pub mod Renames
+pub mod Finals
+pub mod Puts
+pub mod OwnPlaces
+pub mod TxnMarks
+pub mod Events
+pub mod Views
+pub mod Stays
+pub mod Lasting
+pub mod NewDirs
+pub mod JobMarks

@@ -1,0 +1,7 @@
+use Rattle.std.proofs.Common.{◌≡◌, drop}
+use Rattle.std.specs.List.{list_any}
+use Rattle.hv_typing.specs.Merges.{deletes}
+use Rattle.hv_merges.proofs.merges.any_deletes.Given as goal
+
+abbrev pub invariant-loop-clause : goal.invariant-loop-clause
+invariant-loop-clause l = list_any deletes (drop l.clause-index l.clauses) ≡ list_any deletes l.clauses

@@ -1,0 +1,21 @@
+use Rattle.hv_telling.proofs.Noting.{same-start, forgot-whole, forgot-stays, forgot-opens}
+use Rattle.hv_telling.proofs.jobs.forget_bare.Goals as goal
+
+pub returns-clause-whole : goal.returns-clause-whole
+returns-clause-whole g c =
+    forgot-whole g.D.Shelf.told g.D.Shelf.faults c.args.table c.args.write c.args.house.now c.note.new.self c.requires.whole c.requires.fits c.requires.bare
+    c.note.result c.note.ensures.ready c.note.ensures.noted c.note.ensures.step
+
+pub returns-clause-stays : goal.returns-clause-stays
+returns-clause-stays g c =
+    forgot-stays g.D.Shelf.told g.D.Shelf.faults c.args.table c.args.write c.args.house.now c.note.new.self c.requires.whole c.requires.fits c.requires.bare
+    c.note.result c.note.ensures.stays c.note.ensures.halted c.note.ensures.step
+
+pub returns-clause-opens : goal.returns-clause-opens
+returns-clause-opens g c =
+    forgot-opens g.D.Shelf.told g.D.Shelf.faults c.args.table c.args.write c.args.house.now c.note.new.self c.requires.whole c.requires.fits c.requires.bare
+    c.note.result c.note.ensures.halted
+
+pub returns-clause-start : goal.returns-clause-start
+returns-clause-start g c =
+    same-start g.D.Shelf.told g.D.Shelf.faults _ c.args.house.now c.note.new.self _ c.note.ensures.step
