@@ -222,7 +222,8 @@ fn left_counted<D: Shelf + Drop, W: Actor<D, ToldHouse<D>>>(
     ensures counted { (o : Option Store) → AreSteady D.told o by (seen_in (W.house actor.old)) taken.now
         → IfOk result (λ _. Tells o (λ s. HasKindCounts false s.tree taken.now asked dues.now)) }
     ensures damage { (o : Option Store) → AreSteady D.told o by (seen_in (W.house actor.old)) taken.now
-        → IfErr result (λ fault. Tells o (λ s. TellsKind false info.now.table.0 s.tree taken.now asked dues.now fault)) }
+        → IfErr result (λ fault.
+        Tells o (λ s. TellsKind false info.now.table.0 s.tree taken.now asked dues.now fault)) }
     ensures short { IfErr result IsShortDamage }
 {
     let mut counts = Vec::new(alloc);
