@@ -1,6 +1,6 @@
 -- What is known of a house that acts for a compaction or of a cleaner go on with, whatever others do between.
 -- Source: this project's profile.
-use Rattle.std.specs.Prelude.{◌≡◌, ◌⊎◌, ℕ, true, Option, List, []}
+use Rattle.std.specs.Prelude.{◌≡◌, ◌⊎◌, ℕ, Option, List, []}
 use Rattle.hv_shelf.specs.Disk.{Store}
 use Rattle.hv_history.specs.Lasting.{IsFront}
 use Rattle.hv_trail.specs.declared.trail.TrailItem.{TrailItem}
@@ -8,7 +8,7 @@ use Rattle.hv_trail.specs.Steps.{Call, Outcome, gains, Step}
 use Rattle.hv_actor.specs.Acting.{IsLater, Went, Moment, Setting}
 use Rattle.hv_acts.specs.declared.told.ToldHouse.{ToldHouse}
 use Rattle.hv_acts.specs.Told.{IsWholeOrClosed, seen_in, trail_in}
-use Rattle.hv_acts.specs.Going.{IsOpenHouse, IsShutBetween}
+use Rattle.hv_acts.specs.Going.{IsOpenHouse, IsShutHouse, IsShutBetween}
 
 -- one's own acts added just these items, in this order, with others' between; and the house goes on
 pub record AddsItems {D : Type 0} (faults : D → ℕ) (between : List TrailItem → Type 0)
@@ -17,14 +17,14 @@ pub record AddsItems {D : Type 0} (faults : D → ℕ) (between : List TrailItem
   pub went : Went between items before.own now.own (trail_in before.house) (trail_in now.house)
   pub later : IsLater faults (seen_in before.house) (seen_in now.house)
 
--- The last call found the house open and closed it: nothing was added, and its store is as the law of steps says,
--- for a call of such a kind.
+-- The last call found the house open and closed it, and not for want of memory: nothing was added, and its store is as
+-- the law of steps says, for a call of such a kind.
 pub record IsCutNow {D : Type 0} (told : D → Option Store) (faults : D → ℕ) (Of : Call → Type 0)
     (now : ToldHouse D) : Type 0 where
   pub house : ToldHouse D
   pub kept : IsWholeOrClosed told house.house
   pub was : IsOpenHouse house
-  pub is : now.house.trail.closed ≡ true
+  pub is : IsShutHouse now
   pub call : Call
   pub of_it : Of call
   pub outcome : Outcome
