@@ -167,7 +167,8 @@ EndsPublishing why = Unit {0}
 
 -- all that is promised of a publication
 pub record PublishStepWithin {D : Type 0} (limits : Limits) (told : D → Option Store) (faults : D → ℕ)
-    (renamings : List Renaming) (event : Entry) (before now : House D) (result : Result (Unit {0}) PublishFault) : Type 0 where
+    (renamings : List Renaming) (event : Entry) (before now : House D)
+    (result : Result (Unit {0}) PublishFault) : Type 0 where
   pub ready : IfOk result (λ _. IsReadyWithin limits told now)
   pub noted : IfOk result (λ _. entries_of now ≡ entries_of before ++ event ∷ [])
   pub unnoted : IfErr result (λ _. entries_of now ≡ entries_of before)

@@ -41,15 +41,16 @@ TellsUncounted deletes table dues sheets (fault.House why) = Unit {0}
 -- ---- the files of a kind that are taken
 
 -- they were read, and have as many records as commits say, where that is asked
-pub record HasKindCounts (deletes : Bool) (files : Tree) (taken : List DirFile) (asked : Bool) (dues : List Due) : Type 0 where
+pub record HasKindCounts (deletes : Bool) (files : Tree) (taken : List DirFile) (asked : Bool)
+    (dues : List Due) : Type 0 where
   pub sheets : List Sheet
   pub files_are : map sheet_file sheets ≡ taken
   pub each : AllByRecursion (IsSheet deletes files) sheets
   pub counted : AreOwn taken → asked ≡ true → IsCounted deletes dues sheets
 
 -- they were read and haven't, and it is what is told of them
-pub record IsKindUncounted (deletes : Bool) (table : ℕ) (files : Tree) (taken : List DirFile) (asked : Bool) (dues : List Due)
-    (told : FilePlace) : Type 0 where
+pub record IsKindUncounted (deletes : Bool) (table : ℕ) (files : Tree) (taken : List DirFile) (asked : Bool)
+    (dues : List Due) (told : FilePlace) : Type 0 where
   pub sheets : List Sheet
   pub files_are : map sheet_file sheets ≡ taken
   pub each : AllByRecursion (IsSheet deletes files) sheets
