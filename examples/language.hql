@@ -16,7 +16,7 @@ SELECT age FROM people WHERE age > 10;
 SELECT count(*) FROM people;
 --   _c0
 --   3
--- A form that is read, and doesn't run yet.
+-- A form of Hive that is left out.
 SELECT row_number() OVER (ORDER BY age) FROM people;
 --   FAILED 4 Syntax
 -- No statement.

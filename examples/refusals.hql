@@ -3,7 +3,7 @@ CREATE TABLE t (a INT, s STRING);
 --   OK
 CREATE TABLE p (a INT) PARTITIONED BY (k STRING);
 --   OK
--- Texts that are no statement, and one of a form that doesn't run yet.
+-- Texts that are no statement, one of them a form of Hive that is left out.
 SELECT ë FROM t;
 --   FAILED 1 BadCharacter at 7
 SELECT 9223372036854775808;

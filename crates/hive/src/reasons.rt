@@ -1,9 +1,7 @@
 //! Why statements were refused, on standard error: a line for each, with its place in the script.
 use crate::owners::{Owner, owners_of, refusal_of};
 use crate::watching::Reply;
-use hv_ast::discard;
 use hv_base::{NoMemory, Refusal, Text};
-use hv_reading::read_text;
 use hv_script::{Action, ScriptFault, Statement, cut_script, is_directive, read_actions};
 use std::alloc::Global;
 
@@ -15,17 +13,11 @@ struct Lines<'a> {
 }
 
 /// What to do where a text is no statement that runs.
-fn syntax_advice(alloc: Global, text: &Text) -> &'static str {
+fn syntax_advice(text: &Text) -> &'static str {
     if text.as_str().is_empty() {
         return "no statement stands before that ';'";
     }
-    match read_text(alloc, text) {
-        Ok(tree) => {
-            discard(tree);
-            "this form doesn't run yet: docs/LANGUAGE.md has those that do"
-        }
-        Err(_) => "docs/LANGUAGE.md has the forms, docs/FROM_HIVE.md what to write for others",
-    }
+    "docs/LANGUAGE.md has the forms, docs/FROM_HIVE.md what to write for others"
 }
 
 /// What to do, in a few words.
@@ -90,10 +82,10 @@ impl<'a> Lines<'a> {
     }
 
     /// What to do about a reply, in a few words.
-    fn advice(&self, alloc: Global, owner: Owner, reply: &str) -> &'static str {
+    fn advice(&self, owner: Owner, reply: &str) -> &'static str {
         let statement = self.statement(owner.number.unwrap_or(0));
         match (refusal_of(reply), statement) {
-            (Some(Refusal::Syntax), Some((statement, _))) => syntax_advice(alloc, &statement.text),
+            (Some(Refusal::Syntax), Some((statement, _))) => syntax_advice(&statement.text),
             (Some(refusal), _) => advice(refusal),
             (None, _) => "look there",
         }
@@ -143,7 +135,7 @@ fn tell_all<R: Eprint>(
         if let Reply::Refused(text) = reply {
             refused = refused.saturating_add(1);
             let place = lines.places(alloc, *owner)?;
-            let what = lines.advice(alloc, *owner, text.as_str());
+            let what = lines.advice(*owner, text.as_str());
             let _ = eprintln!(rt; "{place}: {text}: {what} (docs/REFUSALS.md)");
         }
     }

@@ -86,7 +86,7 @@ own-abort txn cause.Rollback own = refl
 module _ {D : Type 0} (told : D → Option Store) (faults : D → ℕ) (txn : TxnId) (why : Cause) where
   pub abort-done : (aborted : Aborted) (before now : House D) → IsWhole told before → IsWhole told now → aborted.at ≡ length (book_of (trail_of before.trail))
       → aborted.cause ≡ why → Step told faults (Note (entry.Abort txn why)) Done (seen_of before) (seen_of now)
-      → AbortStep told faults txn (abort_of why aborted.text) before now (Ok aborted)
+      → AbortStep told faults (abort_of txn why aborted.text) before now (Ok aborted)
   abort-done aborted before now was whole place same step = record {
     running = was.ready.kept.running;
     keeps = whole-keeps told now whole;
@@ -98,7 +98,7 @@ module _ {D : Type 0} (told : D → Option Store) (faults : D → ℕ) (txn : Tx
   pub abort-failed : (line : List ℕ) (fault : HouseFault) (before now : House D) → IsOwnCause why → IsWhole told before → EntryFits (trail_of before.trail) (entry.Abort txn why)
       → StaysWhole told fault now → IsHalted told (entry.Abort txn why) fault before now → HasRisen (faults before.shelf) (faults now.shelf) fault
       → (IsToldHouse told before → StillOpens told now) → now.start ≡ before.start → Step told faults (Note (entry.Abort txn why)) (fault_outcome fault) (seen_of before) (seen_of now)
-      → AbortStep told faults txn (abort_of why line) before now (Err fault)
+      → AbortStep told faults (abort_of txn why line) before now (Err fault)
   abort-failed line fault before now own was fits stays halted risen opens start step = record {
     running = was.ready.kept.running;
     keeps = keeps-behind told before now fault was stays opens start step.closed;
@@ -108,7 +108,7 @@ module _ {D : Type 0} (told : D → Option Store) (faults : D → ℕ) (txn : Tx
   }
 
   -- memory lacked for its line
-  pub abort-lacks : (line : List ℕ) (house : House D) → IsWhole told house → AbortStep told faults txn (abort_of why line) house house (Err fault.NoMemory)
+  pub abort-lacks : (line : List ℕ) (house : House D) → IsWhole told house → AbortStep told faults (abort_of txn why line) house house (Err fault.NoMemory)
   abort-lacks line house whole = record {
     running = whole.ready.kept.running;
     keeps = whole-keeps told house whole;

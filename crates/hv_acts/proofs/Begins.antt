@@ -22,7 +22,7 @@ use Rattle.hv_telling.specs.Telling.{IsToldHouse, IsWhole, StaysWhole, StillOpen
 use Rattle.hv_acts.specs.declared.opening.Begun.{Begun}
 use Rattle.hv_acts.specs.declared.fault.BeginFault.{BeginFault}
 use Rattle.hv_acts.specs.declared.fault.BeginFault.TheVariants as hindered
-use Rattle.hv_acts.specs.Beginning.{IsHindered, HasBegun, BeginLeaves, BeginStep}
+use Rattle.hv_acts.specs.Beginning.{IsHindered, HasBegun, BeginLeaves, begin_of, BeginStep}
 use Rattle.hv_acts.proofs.Steps.{book-is, asked, whole-keeps, keeps-behind}
 
 -- ---- what stands in its way
@@ -51,7 +51,7 @@ module _ {D : Type 0} (told : D → Option Store) (faults : D → ℕ) (session 
   pub begin-done : (start : Begun) (before now : House D) → IsWhole told before → IsWhole told now → CanBegin profile (entries_of before) tree
       → start.txn.0 ≡ next_number (entries_of before) → start.place ≡ length (entries_of before) + 1
       → Step told faults (Begin (record { 0 = next_number (entries_of before) }) session number text) Done (seen_of before) (seen_of now)
-      → BeginStep told faults (record { session = session; number = number; text = text }) tree before now (Ok start)
+      → BeginStep told faults (begin_of (record { session = session; number = number; text = text }) tree) before now (Ok start)
   begin-done start before now was whole can txn place step = record {
     keeps = whole-keeps told now whole;
     step = subst (λ (book : List Entry). Step told faults (Begin (record { 0 = next_number book }) session number text) Done (seen_of before) (seen_of now))
@@ -81,7 +81,7 @@ module _ {D : Type 0} (told : D → Option Store) (faults : D → ℕ) (session 
       → StaysWhole told why now → AreHalted told (beginning_of (entries_of before) asking) why before now → HasRisen (faults before.shelf) (faults now.shelf) why → EndsRun why
       → (IsToldHouse told before → StillOpens told now) → now.start ≡ before.start
       → Step told faults (Begin (record { 0 = next_number (entries_of before) }) session number text) (fault_outcome why) (seen_of before) (seen_of now)
-      → BeginStep told faults (record { session = session; number = number; text = text }) tree before now (Err (hindered.House why))
+      → BeginStep told faults (begin_of (record { session = session; number = number; text = text }) tree) before now (Err (hindered.House why))
   begin-failed why before now was fits stays halted risen ends opens start step = record {
     keeps = keeps-behind told before now why was stays opens start step.closed;
     step = subst (λ (book : List Entry). Step told faults (Begin (record { 0 = next_number book }) session number text) (fault_outcome why) (seen_of before) (seen_of now))
@@ -91,7 +91,7 @@ module _ {D : Type 0} (told : D → Option Store) (faults : D → ℕ) (session 
   }
 
   pub begin-hindered : (why : BeginFault) (house : House D) → IsWhole told house → IsHindered (trail_of house.trail) tree why → (CanBegin profile (entries_of house) tree → ⊥)
-      → BeginStep told faults (record { session = session; number = number; text = text }) tree house house (Err why)
+      → BeginStep told faults (begin_of (record { session = session; number = number; text = text }) tree) house house (Err why)
   begin-hindered (hindered.Held by) house whole is not = record {
     keeps = whole-keeps told house whole;
     step = asked told faults (seen_of house);

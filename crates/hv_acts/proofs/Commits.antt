@@ -35,7 +35,7 @@ use Rattle.hv_acts.specs.declared.committing.Conflict.{Conflict}
 use Rattle.hv_acts.specs.declared.committing.Committed.TheVariants as committed
 use Rattle.hv_acts.specs.declared.fault.ActFault.{ActFault}
 use Rattle.hv_acts.specs.declared.fault.ActFault.TheVariants as act
-use Rattle.hv_acts.specs.Answers.{act_outcome, call_behind, FilesTest, IsLate, EntryFits, EntryStep, HasItsMark}
+use Rattle.hv_acts.specs.Answers.{act_outcome, call_behind, FilesTest, IsLate, EntryFits, own_entry, EntryStep, HasItsMark}
 use Rattle.hv_acts.specs.Aborting.{AbortStep, abort_of}
 use Rattle.hv_acts.specs.Putting.{Runs}
 use Rattle.hv_acts.specs.Committing.{IsOfItsChange, CanBePut, WerePut, conflict_cause, IsConflictOf, IsConflict, HasMet, IsReadyWith, RestsOnCommit, CommitStep}
@@ -223,7 +223,7 @@ module _ {D : Type 0} (told : D → Option Store) (faults : D → ℕ) (txn : Tx
 
 module _ {D : Type 0} (told : D → Option Store) (faults : D → ℕ) (txn : TxnId) (wrote : List Touch) (name : List ℕ) (places : List Place) where
   pub commit-failed : (why : ActFault) (before now : House D) → IsClear (trail_of before.trail) txn wrote
-      → EntryStep {T = Unit {0}} told faults txn (entry.Commit txn wrote) before now (Err why)
+      → EntryStep {T = Unit {0}} told faults (own_entry txn (entry.Commit txn wrote)) before now (Err why)
       → CommitStep told faults (record { txn = txn; wrote = wrote; name = name; put = places }) before now (Err why)
   commit-failed why before now clear s = record {
     keeps = s.keeps;
@@ -235,7 +235,7 @@ module _ {D : Type 0} (told : D → Option Store) (faults : D → ℕ) (txn : Tx
 
   pub commit-done : (at : ℕ) (before now : House D) → at ≡ length (book_of (trail_of before.trail)) → broken (Txn txn) (trail_of before.trail) ≡ None
       → WerePut (trail_of before.trail) txn places → HasAtMost (trail_of before.trail) txn 1
-      → EntryStep {T = Unit {0}} told faults txn (entry.Commit txn wrote) before now (Ok tt)
+      → EntryStep {T = Unit {0}} told faults (own_entry txn (entry.Commit txn wrote)) before now (Ok tt)
       → CommitStep told faults (record { txn = txn; wrote = wrote; name = name; put = places }) before now (Ok (committed.At at))
   commit-done at before now place unbroken put most s = record {
     keeps = s.keeps;
@@ -291,7 +291,7 @@ module _ {D : Type 0} (told : D → Option Store) (faults : D → ℕ) (txn : Tx
       (λ is. not (ready-runs wrote (numbered (state_at (trail_of house.trail)).transactions txn.0) is.ready, is.alone))
 
   module _ (found : Conflict) (before now : House D) (met : HasMet (trail_of before.trail) txn wrote name found) where
-    pub conflict-failed : (why : HouseFault) → AbortStep told faults txn (abort_of found.cause found.aborted.text) before now (Err why)
+    pub conflict-failed : (why : HouseFault) → AbortStep told faults (abort_of txn found.cause found.aborted.text) before now (Err why)
         → CommitStep told faults (record { txn = txn; wrote = wrote; name = name; put = places }) before now (Err (act.House why))
     conflict-failed why s = record {
       keeps = s.keeps;
@@ -302,7 +302,7 @@ module _ {D : Type 0} (told : D → Option Store) (faults : D → ℕ) (txn : Tx
       leaves = s.leaves;
     }
 
-    pub conflict-done : (aborted : Aborted) → AbortStep told faults txn (abort_of found.cause found.aborted.text) before now (Ok aborted)
+    pub conflict-done : (aborted : Aborted) → AbortStep told faults (abort_of txn found.cause found.aborted.text) before now (Ok aborted)
         → CommitStep told faults (record { txn = txn; wrote = wrote; name = name; put = places }) before now (Ok (committed.Aborted aborted))
     conflict-done aborted s = record {
       keeps = s.keeps;

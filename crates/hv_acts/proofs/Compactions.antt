@@ -30,7 +30,7 @@ use Rattle.hv_acts.specs.declared.compacting.AskFor.{AskFor}
 use Rattle.hv_acts.specs.declared.compacting.AskedFor.TheVariants as found
 use Rattle.hv_acts.specs.declared.fault.ActFault.{ActFault}
 use Rattle.hv_acts.specs.declared.fault.ActFault.TheVariants as act
-use Rattle.hv_acts.specs.Answers.{call_behind, act_outcome, NoTest, IsLate, EntryStep, aborted_line}
+use Rattle.hv_acts.specs.Answers.{call_behind, act_outcome, NoTest, IsLate, own_entry, EntryStep, aborted_line}
 use Rattle.hv_acts.specs.Aborting.{AbortStep, abort_of}
 use Rattle.hv_acts.specs.Compacting.{next_job, asked_entry, ask_in, is_busy_then, to_ask, RestsOnJob, AskStep}
 use Rattle.hv_acts.specs.Meant.{RunsWith}
@@ -81,7 +81,7 @@ ask-free trail asked runs room =
 module _ {D : Type 0} (told : D → Option Store) (faults : D → ℕ) (asked : AskFor) where
   pub ask-aborted : (aborted : Aborted) (before now : House D) → is_busy_then (trail_of before.trail) asked ≡ false → RunsWith (trail_of before.trail) asked.by 0
       → Of (state_at (trail_of before.trail)) asked.by.0 (FullFits profile (state_at (trail_of before.trail)))
-      → AbortStep told faults asked.by (abort_of cause.Full (aborted_line cause.Full)) before now (Ok aborted)
+      → AbortStep told faults (abort_of asked.by cause.Full (aborted_line cause.Full)) before now (Ok aborted)
       → AskStep told faults asked before now (Ok (found.Aborted aborted))
   ask-aborted aborted before now idle runs full s = record {
     keeps = s.keeps;
@@ -99,7 +99,7 @@ module _ {D : Type 0} (told : D → Option Store) (faults : D → ℕ) (asked : 
   }
 
   pub ask-halted : (why : HouseFault) (before now : House D) → Of (state_at (trail_of before.trail)) asked.by.0 (FullFits profile (state_at (trail_of before.trail)))
-      → AbortStep told faults asked.by (abort_of cause.Full (aborted_line cause.Full)) before now (Err why)
+      → AbortStep told faults (abort_of asked.by cause.Full (aborted_line cause.Full)) before now (Err why)
       → AskStep told faults asked before now (Err (act.House why))
   ask-halted why before now full s = record {
     keeps = s.keeps;
@@ -111,7 +111,7 @@ module _ {D : Type 0} (told : D → Option Store) (faults : D → ℕ) (asked : 
 
   pub ask-done : (job : JobId) (before now : House D) → is_busy_then (trail_of before.trail) asked ≡ false → RunsWith (trail_of before.trail) asked.by 0
       → job ≡ next_job (trail_of before.trail)
-      → EntryStep {T = Unit {0}} told faults asked.by (asked_entry asked (next_job (trail_of before.trail))) before now (Ok tt)
+      → EntryStep {T = Unit {0}} told faults (own_entry asked.by (asked_entry asked (next_job (trail_of before.trail)))) before now (Ok tt)
       → AskStep told faults asked before now (Ok (found.Job job))
   ask-done job before now idle runs next s = record {
     keeps = s.keeps;
@@ -122,7 +122,7 @@ module _ {D : Type 0} (told : D → Option Store) (faults : D → ℕ) (asked : 
 
   pub ask-refused : (why : ActFault) (before now : House D) → RunsWith (trail_of before.trail) asked.by 0
       → (Of (state_at (trail_of before.trail)) asked.by.0 (FullFits profile (state_at (trail_of before.trail))) → ⊥)
-      → EntryStep {T = Unit {0}} told faults asked.by (asked_entry asked (next_job (trail_of before.trail))) before now (Err why)
+      → EntryStep {T = Unit {0}} told faults (own_entry asked.by (asked_entry asked (next_job (trail_of before.trail)))) before now (Err why)
       → AskStep told faults asked before now (Err why)
   ask-refused why before now runs room s = record {
     keeps = s.keeps;

@@ -16,7 +16,7 @@ use Rattle.hv_telling.specs.hv_house.specs.declared.house.House.{House}
 use Rattle.hv_telling.specs.hv_house.specs.Steps.{seen_of}
 use Rattle.hv_telling.specs.Telling.{IsWhole}
 use Rattle.hv_acts.specs.declared.fault.ActFault.{ActFault}
-use Rattle.hv_acts.specs.Answers.{NoTest, IsLate, EntryStep}
+use Rattle.hv_acts.specs.Answers.{NoTest, IsLate, own_entry, EntryStep, own_table}
 use Rattle.hv_acts.specs.Meant.{HasAtMost, RunsWith}
 use Rattle.hv_acts.specs.Dropping.{CanDrop, DropStep}
 use Rattle.hv_acts.proofs.Steps.{whole-keeps}
@@ -33,7 +33,7 @@ drop-runs trail txn table fits = (runs-by (state_at trail) table.0 (numbered (st
 
 module _ {D : Type 0} (told : D → Option Store) (faults : D → ℕ) (txn : TxnId) (table : TableId) where
   pub drop-late : (why : ActFault) (house : House D) → IsWhole told house → IsLate (trail_of house.trail) txn why → (RunsWith (trail_of house.trail) txn 0 → ⊥)
-      → DropStep told faults txn table house house (Err why)
+      → DropStep told faults (own_table txn table) house house (Err why)
   drop-late why house whole late not = record {
     keeps = whole-keeps told house whole;
     step = asked-late told faults (seen_of house) (trail_of house.trail) txn (Note (entry.Drop txn table)) why late;
@@ -42,7 +42,8 @@ module _ {D : Type 0} (told : D → Option Store) (faults : D → ℕ) (txn : Tx
   }
 
   pub drop-done : (at : ℕ) (before now : House D) → HasAtMost (trail_of before.trail) txn 0 → at ≡ length (book_of (trail_of before.trail))
-      → EntryStep {T = Unit {0}} told faults txn (entry.Drop txn table) before now (Ok tt) → DropStep told faults txn table before now (Ok at)
+      → EntryStep {T = Unit {0}} told faults (own_entry txn (entry.Drop txn table)) before now (Ok tt)
+      → DropStep told faults (own_table txn table) before now (Ok at)
   drop-done at before now none place s = record {
     keeps = s.keeps;
     step = s.step;
@@ -50,8 +51,8 @@ module _ {D : Type 0} (told : D → Option Store) (faults : D → ℕ) (txn : Tx
     leaves = s.leaves;
   }
 
-  pub drop-failed : (why : ActFault) (before now : House D) → EntryStep {T = Unit {0}} told faults txn (entry.Drop txn table) before now (Err why)
-      → DropStep told faults txn table before now (Err why)
+  pub drop-failed : (why : ActFault) (before now : House D) → EntryStep {T = Unit {0}} told faults (own_entry txn (entry.Drop txn table)) before now (Err why)
+      → DropStep told faults (own_table txn table) before now (Err why)
   drop-failed why before now s = record {
     keeps = s.keeps;
     step = s.step;

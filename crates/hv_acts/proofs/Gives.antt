@@ -31,7 +31,7 @@ use Rattle.hv_acts.specs.declared.giving.Given.TheVariants as given
 use Rattle.hv_acts.specs.declared.fault.ActFault.{ActFault}
 use Rattle.hv_acts.specs.declared.fault.ActFault.TheVariants as act
 use Rattle.hv_book.specs.Briefs.{given_while, given_at}
-use Rattle.hv_acts.specs.Answers.{call_behind, act_outcome, NoTest, IsLate, id_behind, next_id, EntryFits, EntryStep, aborted_line}
+use Rattle.hv_acts.specs.Answers.{call_behind, act_outcome, NoTest, IsLate, id_behind, next_id, EntryFits, own_entry, EntryStep, aborted_line, own_table}
 use Rattle.hv_acts.specs.Aborting.{AbortStep, is_full, abort_of}
 use Rattle.hv_acts.specs.Giving.{to_give, RestsOnId, GiveStep}
 use Rattle.hv_acts.specs.Meant.{HasAtMost, RunsWith, IsIdDue, IsCauseTrue}
@@ -107,8 +107,8 @@ lack-true trail txn table runs due =
 module _ {D : Type 0} (told : D → Option Store) (faults : D → ℕ) (txn : TxnId) (table : TableId) where
   pub give-aborted : (aborted : Aborted) (before now : House D) → RunsWith (trail_of before.trail) txn 0
       → Of (state_at (trail_of before.trail)) txn.0 (FullFits profile (state_at (trail_of before.trail)))
-      → AbortStep told faults txn (abort_of cause.Full (aborted_line cause.Full)) before now (Ok aborted)
-      → GiveStep told faults txn table before now (Ok (given.Aborted aborted))
+      → AbortStep told faults (abort_of txn cause.Full (aborted_line cause.Full)) before now (Ok aborted)
+      → GiveStep told faults (own_table txn table) before now (Ok (given.Aborted aborted))
   give-aborted aborted before now runs full s = record {
     keeps = s.keeps;
     step = subst (λ (why : Cause). Step told faults (Note (entry.Abort txn why)) Done (seen_of before) (seen_of now)) (sym s.tells.cause_is) s.step;
@@ -122,8 +122,8 @@ module _ {D : Type 0} (told : D → Option Store) (faults : D → ℕ) (txn : Tx
   }
 
   pub give-halted : (why : HouseFault) (before now : House D) → Of (state_at (trail_of before.trail)) txn.0 (FullFits profile (state_at (trail_of before.trail)))
-      → AbortStep told faults txn (abort_of cause.Full (aborted_line cause.Full)) before now (Err why)
-      → GiveStep told faults txn table before now (Err (act.House why))
+      → AbortStep told faults (abort_of txn cause.Full (aborted_line cause.Full)) before now (Err why)
+      → GiveStep told faults (own_table txn table) before now (Err (act.House why))
   give-halted why before now full s = record {
     keeps = s.keeps;
     step =
@@ -133,14 +133,14 @@ module _ {D : Type 0} (told : D → Option Store) (faults : D → ℕ) (txn : Tx
   }
 
   pub give-done : (write : WriteId) (before now : House D) → RunsWith (trail_of before.trail) txn 0 → write ≡ next_id (trail_of before.trail) table
-      → EntryStep {T = Unit {0}} told faults txn (entry.Given txn table (next_id (trail_of before.trail) table)) before now (Ok tt)
-      → GiveStep told faults txn table before now (Ok (given.Id write))
+      → EntryStep {T = Unit {0}} told faults (own_entry txn (entry.Given txn table (next_id (trail_of before.trail) table))) before now (Ok tt)
+      → GiveStep told faults (own_table txn table) before now (Ok (given.Id write))
   give-done write before now runs next s = record { keeps = s.keeps; step = s.step; answers = ((s.answers.0, runs.1), next); leaves = s.leaves }
 
   pub give-refused : (why : ActFault) (before now : House D) → RunsWith (trail_of before.trail) txn 0
       → (Of (state_at (trail_of before.trail)) txn.0 (FullFits profile (state_at (trail_of before.trail))) → ⊥)
-      → EntryStep {T = Unit {0}} told faults txn (entry.Given txn table (next_id (trail_of before.trail) table)) before now (Err why)
-      → GiveStep told faults txn table before now (Err why)
+      → EntryStep {T = Unit {0}} told faults (own_entry txn (entry.Given txn table (next_id (trail_of before.trail) table))) before now (Err why)
+      → GiveStep told faults (own_table txn table) before now (Err why)
   give-refused why before now runs room s = record {
     keeps = s.keeps;
     step =
@@ -151,7 +151,7 @@ module _ {D : Type 0} (told : D → Option Store) (faults : D → ℕ) (txn : Tx
   }
 
   pub give-late : (why : ActFault) (house : House D) → IsWhole told house → IsLate (trail_of house.trail) txn why → (RunsWith (trail_of house.trail) txn 0 → ⊥)
-      → GiveStep told faults txn table house house (Err why)
+      → GiveStep told faults (own_table txn table) house house (Err why)
   give-late why house whole late not = record {
     keeps = whole-keeps told house whole;
     step = asked-late told faults (seen_of house) (trail_of house.trail) txn (Note (to_give (trail_of house.trail) txn table)) why late;

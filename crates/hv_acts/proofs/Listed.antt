@@ -34,7 +34,7 @@ use Rattle.hv_telling.specs.hv_house.specs.declared.listing.Listing.{Listing}
 use Rattle.hv_telling.specs.hv_house.specs.Listing.{AreTaken}
 use Rattle.hv_telling.specs.hv_house.specs.Seeing.{ids_in}
 use Rattle.hv_telling.specs.Telling.{IsTold}
-use Rattle.hv_acts.specs.Reading.{state_then, HasFittingBook, FilesStand, IsUnended, ReadsOn, HasListed, StandsStill, AllStandStill, ReadsOnTold, IsGotStill, AllGotStill}
+use Rattle.hv_acts.specs.Reading.{state_then, HasFittingBook, FilesStand, IsUnended, table_at, ReadsOn, HasListed, StandsStill, AllStandStill, ReadsOnTold, IsGotStill, AllGotStill}
 use Rattle.hv_acts.proofs.Readings.{book-more, then-same, front-book, table-lasts, unended-before, reads-at}
 
 -- ---- one file that a transaction takes
@@ -63,7 +63,8 @@ module _ (book : List Entry) (txn place : ℕ) (table : Table) (files : Tree) (a
 
 -- ---- over two trees in which the files of two books stand
 
-module _ (before now : List TrailItem) (files files' : Tree) (by : TxnId) (place : ℕ) (table : Table) (on : ReadsOn before now files files' by place table) where
+module _ (before now : List TrailItem) (files files' : Tree) (by : TxnId) (place : ℕ) (table : Table)
+    (on : ReadsOn before now files files' (table_at by place table)) where
   abbrev number : ℕ
   number = table.info.table.0
 
@@ -127,7 +128,7 @@ module _ {D : Type 0} (told : D → Option Store) (before now : HouseSeen D) (by
 
   -- the files of both books stand
   reads-on : (s t : Store) → HasFittingBook now.trail → IsUnended now.trail by → Standing (state_at before.trail) s.tree → Standing (state_at now.trail) t.tree
-      → ReadsOn before.trail now.trail s.tree t.tree by place table
+      → ReadsOn before.trail now.trail s.tree t.tree (table_at by place table)
   reads-on s t book unended stood stand =
       record { front = on.front; book = book; stood = stood; stand = stand; reads = on.reads; here = on.here; running_now = unended }
 

@@ -16,7 +16,7 @@ use Rattle.hv_telling.specs.hv_house.specs.declared.house.House.{House}
 use Rattle.hv_telling.specs.hv_house.specs.Steps.{seen_of}
 use Rattle.hv_telling.specs.Telling.{IsWhole}
 use Rattle.hv_acts.specs.declared.fault.ActFault.{ActFault}
-use Rattle.hv_acts.specs.Answers.{next_table, NoTest, IsLate, EntryStep}
+use Rattle.hv_acts.specs.Answers.{next_table, NoTest, IsLate, own_entry, EntryStep}
 use Rattle.hv_acts.specs.Meant.{HasAtMost, RunsWith}
 use Rattle.hv_acts.specs.Making.{MakeFits, MakeStep}
 use Rattle.hv_acts.proofs.Steps.{whole-keeps}
@@ -42,7 +42,8 @@ module _ {D : Type 0} (told : D → Option Store) (faults : D → ℕ) (txn : Tx
   }
 
   pub make-done : (table : TableId) (at : ℕ) (before now : House D) → HasAtMost (trail_of before.trail) txn 0 → table ≡ next_table (trail_of before.trail)
-      → at ≡ length (book_of (trail_of before.trail)) → EntryStep {T = Unit {0}} told faults txn (entry.Create txn (next_table (trail_of before.trail))) before now (Ok tt)
+      → at ≡ length (book_of (trail_of before.trail))
+      → EntryStep {T = Unit {0}} told faults (own_entry txn (entry.Create txn (next_table (trail_of before.trail)))) before now (Ok tt)
       → MakeStep told faults txn before now (Ok (record { table = table; at = at }))
   make-done table at before now none next place s = record {
     keeps = s.keeps;
@@ -52,7 +53,8 @@ module _ {D : Type 0} (told : D → Option Store) (faults : D → ℕ) (txn : Tx
   }
 
   pub make-failed : (why : ActFault) (before now : House D)
-      → EntryStep {T = Unit {0}} told faults txn (entry.Create txn (next_table (trail_of before.trail))) before now (Err why) → MakeStep told faults txn before now (Err why)
+      → EntryStep {T = Unit {0}} told faults (own_entry txn (entry.Create txn (next_table (trail_of before.trail)))) before now (Err why)
+      → MakeStep told faults txn before now (Err why)
   make-failed why before now s = record {
     keeps = s.keeps;
     step = s.step;

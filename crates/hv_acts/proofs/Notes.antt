@@ -28,7 +28,7 @@ use Rattle.hv_telling.specs.hv_house.specs.Steps.{seen_of, fault_outcome}
 use Rattle.hv_telling.specs.Telling.{IsToldHouse, IsWhole, StaysWhole, StillOpens}
 use Rattle.hv_acts.specs.declared.fault.ActFault.{ActFault}
 use Rattle.hv_acts.specs.declared.fault.ActFault.TheVariants as act
-use Rattle.hv_acts.specs.Answers.{act_outcome, call_behind, Test, NoTest, IsLate, IsWhy, HasNotEnded, id_behind, next_id, next_table, EntryFits, EntryStep, WhyRises, OpensNone}
+use Rattle.hv_acts.specs.Answers.{act_outcome, call_behind, Test, NoTest, IsLate, IsWhy, HasNotEnded, id_behind, next_id, next_table, EntryFits, own_entry, EntryStep, WhyRises, OpensNone}
 use Rattle.hv_acts.proofs.Steps.{book-is, asked, whole-keeps, keeps-behind}
 use Rattle.hv_acts.proofs.Leaves.{noted-leaves, late-leaves}
 
@@ -143,11 +143,11 @@ fits-book house event = subst (λ (book : List Entry). Fits profile (state_of bo
 
 module _ {D : Type 0} (told : D → Option Store) (faults : D → ℕ) (txn : TxnId) (event : Entry) where
   pub step-done : {T : Type 0} (x : T) (before now : House D) → IsWhole told before → IsWhole told now → Step told faults (Note event) Done (seen_of before) (seen_of now)
-      → EntryFits (trail_of before.trail) event → EntryStep told faults txn event before now (Ok x)
+      → EntryFits (trail_of before.trail) event → EntryStep told faults (own_entry txn event) before now (Ok x)
   step-done x before now was whole step fits = record { keeps = whole-keeps told now whole; step = step; answers = (fits, tt); leaves = was.ready.kept.running }
 
   pub step-late : {T : Type 0} (why : ActFault) (house : House D) → IsWhole told house → IsLate (trail_of house.trail) txn why → (EntryFits (trail_of house.trail) event → ⊥)
-      → EntryStep {T = T} told faults txn event house house (Err why)
+      → EntryStep {T = T} told faults (own_entry txn event) house house (Err why)
   step-late why house whole late not = record {
     keeps = whole-keeps told house whole;
     step = asked-late told faults (seen_of house) (trail_of house.trail) txn (Note event) why late;
@@ -159,7 +159,8 @@ module _ {D : Type 0} (told : D → Option Store) (faults : D → ℕ) (txn : Tx
       → EntryFits (trail_of before.trail) event
       → StaysWhole told why now → IsHalted told event why before now → HasRisen (faults before.shelf) (faults now.shelf) why
       → (IsToldHouse told before → StillOpens told now) → now.start ≡ before.start
-      → Step told faults (Note event) (fault_outcome why) (seen_of before) (seen_of now) → EntryStep {T = T} told faults txn event before now (Err (act.House why))
+      → Step told faults (Note event) (fault_outcome why) (seen_of before) (seen_of now)
+      → EntryStep {T = T} told faults (own_entry txn event) before now (Err (act.House why))
   step-failed why before now was of_it unopened fits stays halted risen opens start step = record {
     keeps = keeps-behind told before now why was stays opens start step.closed;
     step = step;

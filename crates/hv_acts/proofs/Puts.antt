@@ -86,7 +86,7 @@ own-file house by place file has runs = record {
 module _ {D : Type 0} (told : D → Option Store) (faults : D → ℕ) (by : TxnId) (place : Place) (file : OutFile) where
   pub file-done : (before now : House D) → RunsWith (trail_of before.trail) by 1 → IsWhole told before → IsWhole told now → IsEncoded file
       → Step told faults (Put (Txn by) place (bytes_of file)) Done (seen_of before) (seen_of now)
-      → FileStep told faults by (at_place place file) before now (Ok tt)
+      → FileStep told faults (at_place by place file) before now (Ok tt)
   file-done before now runs was whole encoded step = record {
     keeps = whole-keeps told now whole;
     step = step;
@@ -96,7 +96,7 @@ module _ {D : Type 0} (told : D → Option Store) (faults : D → ℕ) (by : Txn
   }
 
   pub file-late : (why : ActFault) (house : House D) → IsWhole told house → IsLate (trail_of house.trail) by why → (RunsWith (trail_of house.trail) by 1 → ⊥)
-      → FileStep told faults by (at_place place file) house house (Err why)
+      → FileStep told faults (at_place by place file) house house (Err why)
   file-late why house whole late not = record {
     keeps = whole-keeps told house whole;
     step = asked-late told faults (seen_of house) (trail_of house.trail) by (Put (Txn by) place (bytes_of file)) why late;
@@ -108,7 +108,7 @@ module _ {D : Type 0} (told : D → Option Store) (faults : D → ℕ) (by : Txn
   pub file-failed : (why : HouseFault) (before now : House D) → IsWhole told before → StaysWhole told why now → (IsToldHouse told before → StillOpens told now)
       → now.start ≡ before.start → entries_of now ≡ entries_of before → StaysPut told why now → HasRisen (faults before.shelf) (faults now.shelf) why
       → Step told faults (Put (Txn by) place (bytes_of file)) (fault_outcome why) (seen_of before) (seen_of now)
-      → FileStep told faults by (at_place place file) before now (Err (act.House why))
+      → FileStep told faults (at_place by place file) before now (Err (act.House why))
   file-failed why before now was stays opens start same put risen step = record {
     keeps = keeps-behind told before now why was stays opens start step.closed;
     step = step;

@@ -45,7 +45,7 @@ use Rattle.hv_acts.specs.declared.fault.ActFault.{ActFault}
 use Rattle.hv_acts.specs.declared.fault.ActFault.TheVariants as act
 use Rattle.hv_acts.specs.Told.{IsWholeOrClosed}
 use Rattle.hv_acts.specs.Answers.{HasNotEnded}
-use Rattle.hv_acts.specs.Reading.{HasFittingBook, IsReader, ReadsTable, IsUnended, FilesStand, FindStep, of_list, ListStep, IsNeededIn, IsNeededAt, GetStep, state_then}
+use Rattle.hv_acts.specs.Reading.{HasFittingBook, IsReader, ReadsTable, IsUnended, FilesStand, FindStep, of_list, ListStep, IsNeededIn, IsNeededAt, sought_at, GetStep, state_then}
 use Rattle.hv_acts.proofs.Steps.{book-is, moves-same, or-false, asked, whole-keeps, keeps-behind, same-start}
 use Rattle.hv_acts.proofs.Leaves.{held-leaves, rises-by}
 
@@ -241,7 +241,7 @@ module _ {D : Type 0} (told : D → Option Store) (faults : D → ℕ) (by : Txn
       → ((at : ℕ) → IsErrOf result (get_fault.NotOpen at) ↔ HasEndedAt (entries_of before) by.0 at)
       → IfOk result (λ (found : Vec ℕ). IsReady told now) → IfErr result (λ why. StaysGot told why now)
       → entries_of now ≡ entries_of before → IfErr result (HasRisenGetting (faults before.shelf) (faults now.shelf))
-      → Step told faults call (get_outcome result) (seen_of before) (seen_of now) → GetStep told faults by place before now result
+      → Step told faults call (get_outcome result) (seen_of before) (seen_of now) → GetStep told faults (sought_at by place) before now result
   get-step place (Ok found) before now was bytes none needed missed ends ready stays same risen step = record {
     keeps = keeps-ready Done before now was ready step;
     step = step;

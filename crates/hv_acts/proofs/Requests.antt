@@ -17,7 +17,7 @@ use Rattle.hv_telling.specs.hv_house.specs.House.{entries_of}
 use Rattle.hv_telling.specs.hv_house.specs.Steps.{seen_of}
 use Rattle.hv_telling.specs.Telling.{IsWhole, IsTrueNow}
 use Rattle.hv_acts.specs.declared.fault.ActFault.{ActFault}
-use Rattle.hv_acts.specs.Answers.{NoTest, IsLate, EntryFits, EntryStep}
+use Rattle.hv_acts.specs.Answers.{NoTest, IsLate, EntryFits, own_entry, EntryStep}
 use Rattle.hv_acts.specs.Meant.{RunsWith}
 use Rattle.hv_acts.specs.Passing.{opened_then, is_left}
 use Rattle.hv_acts.specs.Requesting.{requested, RestsOnRequest, RequestStep}
@@ -126,7 +126,7 @@ module _ {D : Type 0} (told : D → Option Store) (faults : D → ℕ) (by : Txn
   }
 
   pub request-done : (before now : House D) → is_left (trail_of before.trail) by place txn.0 ≡ true
-      → EntryStep {T = Unit {0}} told faults by (requested by txn) before now (Ok tt)
+      → EntryStep {T = Unit {0}} told faults (own_entry by (requested by txn)) before now (Ok tt)
       → RequestStep told faults (record { by = by; place = place; txn = txn }) before now (Ok true)
   request-done before now left s = record {
     keeps = s.keeps;
@@ -136,7 +136,7 @@ module _ {D : Type 0} (told : D → Option Store) (faults : D → ℕ) (by : Txn
   }
 
   pub request-failed : (why : ActFault) (before now : House D) → is_left (trail_of before.trail) by place txn.0 ≡ true
-      → EntryStep {T = Unit {0}} told faults by (requested by txn) before now (Err why)
+      → EntryStep {T = Unit {0}} told faults (own_entry by (requested by txn)) before now (Err why)
       → RequestStep told faults (record { by = by; place = place; txn = txn }) before now (Err why)
   request-failed why before now left s = record {
     keeps = s.keeps;

@@ -25,7 +25,7 @@ use Rattle.hv_acts.specs.declared.aborted.Aborted.{Aborted}
 use Rattle.hv_acts.specs.declared.starting.Started.TheVariants as started
 use Rattle.hv_acts.specs.declared.fault.ActFault.{ActFault}
 use Rattle.hv_acts.specs.declared.fault.ActFault.TheVariants as act
-use Rattle.hv_acts.specs.Answers.{call_behind, act_outcome, NoTest, StartTest, EntryFits, EntryStep, aborted_line}
+use Rattle.hv_acts.specs.Answers.{call_behind, act_outcome, NoTest, StartTest, EntryFits, own_entry, EntryStep, aborted_line}
 use Rattle.hv_acts.specs.Aborting.{AbortStep, is_full, abort_of}
 use Rattle.hv_acts.specs.Starting.{start_entry, entry_to_start, to_start, WaitsWithoutRoom, WaitsInFull, IsShort, IsInItsWay, StartOrAbortStep}
 use Rattle.hv_acts.specs.Waiting.{IsHeld, StartStep}
@@ -217,7 +217,7 @@ module _ {D : Type 0} (told : D → Option Store) (faults : D → ℕ) (txn : Tx
   }
 
   pub start-noted : (place : ℕ) (before now : House D) → ((by : TxnId) → IsHeld (trail_of before.trail) txn by → ⊥)
-      → place ≡ length (book_of (trail_of before.trail)) → EntryStep {T = Unit {0}} told faults txn (entry.Start txn 0) before now (Ok tt)
+      → place ≡ length (book_of (trail_of before.trail)) → EntryStep {T = Unit {0}} told faults (own_entry txn (entry.Start txn 0)) before now (Ok tt)
       → StartStep told faults txn before now (Ok place)
   start-noted place before now unheld is s = record {
     keeps = s.keeps;
@@ -228,7 +228,7 @@ module _ {D : Type 0} (told : D → Option Store) (faults : D → ℕ) (txn : Tx
 
   pub start-refused : (why : ActFault) (before now : House D) → (Of (state_at (trail_of before.trail)) txn.0 (FullFits profile (state_at (trail_of before.trail))) → ⊥)
       → ((by : TxnId) → IsHeld (trail_of before.trail) txn by → ⊥)
-      → EntryStep {T = Unit {0}} told faults txn (entry.Start txn 0) before now (Err why) → StartStep told faults txn before now (Err why)
+      → EntryStep {T = Unit {0}} told faults (own_entry txn (entry.Start txn 0)) before now (Err why) → StartStep told faults txn before now (Err why)
   start-refused why before now room unheld s = record {
     keeps = s.keeps;
     step = s.step;
@@ -243,7 +243,7 @@ module _ {D : Type 0} (told : D → Option Store) (faults : D → ℕ) (txn : Tx
   -- ---- the step of one that starts or is aborted
 
   pub stop-aborted : (why : Cause) (aborted : Aborted) (before now : House D) → IsInItsWay (trail_of before.trail) txn why
-      → AbortStep told faults txn (abort_of why (aborted_line why)) before now (Ok aborted)
+      → AbortStep told faults (abort_of txn why (aborted_line why)) before now (Ok aborted)
       → StartOrAbortStep told faults txn before now (Ok (started.Aborted aborted))
   stop-aborted why aborted before now way s = record {
     keeps = s.keeps;
@@ -256,7 +256,7 @@ module _ {D : Type 0} (told : D → Option Store) (faults : D → ℕ) (txn : Tx
   }
 
   pub stop-halted : (why : Cause) (fault : HouseFault) (before now : House D) → to_start (trail_of before.trail) txn ≡ entry.Abort txn why
-      → AbortStep told faults txn (abort_of why (aborted_line why)) before now (Err fault) → StartOrAbortStep told faults txn before now (Err (act.House fault))
+      → AbortStep told faults (abort_of txn why (aborted_line why)) before now (Err fault) → StartOrAbortStep told faults txn before now (Err (act.House fault))
   stop-halted why fault before now is s = record {
     keeps = s.keeps;
     step = subst (λ (e : Entry). Step told faults (Note e) (fault_outcome fault) (seen_of before) (seen_of now)) (sym is) s.step;
@@ -265,12 +265,13 @@ module _ {D : Type 0} (told : D → Option Store) (faults : D → ℕ) (txn : Tx
   }
 
   pub go-noted : (place : ℕ) (before now : House D) → place ≡ length (book_of (trail_of before.trail))
-      → EntryStep {T = Unit {0}} told faults txn (entry.Start txn 0) before now (Ok tt) → StartOrAbortStep told faults txn before now (Ok (started.At place))
+      → EntryStep {T = Unit {0}} told faults (own_entry txn (entry.Start txn 0)) before now (Ok tt)
+      → StartOrAbortStep told faults txn before now (Ok (started.At place))
   go-noted place before now is s = record { keeps = s.keeps; step = s.step; answers = (s.answers.0, is); leaves = s.leaves }
 
   pub go-refused : (why : ActFault) (before now : House D) → (WaitsInFull (trail_of before.trail) txn → ⊥)
       → ((by : TxnId) → IsHeld (trail_of before.trail) txn by → ⊥)
-      → EntryStep {T = Unit {0}} told faults txn (entry.Start txn 0) before now (Err why) → StartOrAbortStep told faults txn before now (Err why)
+      → EntryStep {T = Unit {0}} told faults (own_entry txn (entry.Start txn 0)) before now (Err why) → StartOrAbortStep told faults txn before now (Err why)
   go-refused why before now free unheld s = record {
     keeps = s.keeps;
     step =

@@ -23,23 +23,24 @@ pub record TellsNext (trail : List TrailItem) (why : Cause) (line : List ℕ) (a
   pub cause_is : aborted.cause ≡ why
   pub line_is : aborted.text ≡ line
 
--- an abort that is to be noted: its cause, and the line that is told of it
+-- an abort of a transaction that is to be noted: its cause, and the line that is told of it
 pub record AbortDue : Type 0 where
+  pub txn : TxnId
   pub why : Cause
   pub line : List ℕ
 
-abbrev pub abort_of : Cause → List ℕ → AbortDue
-abort_of why line = record { why = why; line = line }
+abbrev pub abort_of : TxnId → Cause → List ℕ → AbortDue
+abort_of txn why line = record { txn = txn; why = why; line = line }
 
--- all that is promised of an abort of this transaction that was to be noted
-pub record AbortStep {D : Type 0} (told : D → Option Store) (faults : D → ℕ) (txn : TxnId) (abort : AbortDue)
-    (before now : House D)
+-- all that is promised of an abort that was to be noted
+pub record AbortStep {D : Type 0} (told : D → Option Store) (faults : D → ℕ) (abort : AbortDue) (before now : House D)
     (result : Result Aborted HouseFault) : Type 0 where
   pub running : before.trail.closed ≡ false
   pub keeps : IsWholeOrClosed told now
-  pub step : Step told faults (Note (entry.Abort txn abort.why)) (outcome_of result) (seen_of before) (seen_of now)
+  pub step : Step told faults (Note (entry.Abort abort.txn abort.why)) (outcome_of result) (seen_of before)
+      (seen_of now)
   pub tells : IfOk result (TellsNext (trail_of before.trail) abort.why abort.line)
-  pub leaves : IfErr result (FaultLeaves told faults txn.0 (seen_of before) (seen_of now))
+  pub leaves : IfErr result (FaultLeaves told faults abort.txn.0 (seen_of before) (seen_of now))
 
 -- no entry more that asks for room would fit
 abbrev pub is_full : State → Bool

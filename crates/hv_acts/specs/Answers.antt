@@ -162,14 +162,31 @@ WhyRises faults before why = Unit {0}
 abbrev pub EntryFits : List TrailItem → Entry → Type 0
 EntryFits trail event = Fits profile (state_at trail) event
 
--- all that is promised of an entry of this transaction that was to be noted
-pub record EntryStep {D T : Type 0} (told : D → Option Store) (faults : D → ℕ) (txn : TxnId) (event : Entry)
-    (before now : House D) (result : Result T ActFault) : Type 0 where
+-- an entry, and the transaction that has it noted
+pub record OwnEntry : Type 0 where
+  pub txn : TxnId
+  pub event : Entry
+
+abbrev pub own_entry : TxnId → Entry → OwnEntry
+own_entry txn event = record { txn = txn; event = event }
+
+-- a table, and the transaction that asks something of it
+pub record OwnTable : Type 0 where
+  pub txn : TxnId
+  pub table : TableId
+
+abbrev pub own_table : TxnId → TableId → OwnTable
+own_table txn table = record { txn = txn; table = table }
+
+-- all that is promised of an entry of a transaction that was to be noted
+pub record EntryStep {D T : Type 0} (told : D → Option Store) (faults : D → ℕ) (own : OwnEntry) (before now : House D)
+    (result : Result T ActFault) : Type 0 where
   pub keeps : IsWholeOrClosed told now
-  pub step : Step told faults (answer_call (Note event) result) (answer_outcome result) (seen_of before) (seen_of now)
-  pub answers : Answers NoTest (trail_of before.trail) txn (EntryFits (trail_of before.trail) event) (λ x. Unit {0})
-      result
-  pub leaves : AnswerLeaves told faults txn.0 (seen_of before) (seen_of now) result
+  pub step : Step told faults (answer_call (Note own.event) result) (answer_outcome result) (seen_of before)
+      (seen_of now)
+  pub answers : Answers NoTest (trail_of before.trail) own.txn (EntryFits (trail_of before.trail) own.event)
+      (λ x. Unit {0}) result
+  pub leaves : AnswerLeaves told faults own.txn.0 (seen_of before) (seen_of now) result
 
 -- ---- numbers that are given next
 

@@ -90,12 +90,20 @@ BeginLeaves told faults asking before now (Err (hindered.House fault.Store)) = b
 BeginLeaves told faults asking before now (Err (hindered.House fault.NoMemory)) = before.closed ≡ false
 BeginLeaves told faults asking before now (Err (hindered.House (fault.Failed count))) = ⊥
 
+-- a statement that is to begin: who asks for it, and its tree
+pub record BeginDue : Type 0 where
+  pub asking : Asking
+  pub tree : Stmt
+
+abbrev pub begin_of : Asking → Stmt → BeginDue
+begin_of asking tree = record { asking = asking; tree = tree }
+
 -- all that is promised of a statement that was to begin
-pub record BeginStep {D : Type 0} (told : D → Option Store) (faults : D → ℕ) (asking : Asking) (tree : Stmt)
-    (before now : House D)
+pub record BeginStep {D : Type 0} (told : D → Option Store) (faults : D → ℕ) (due : BeginDue) (before now : House D)
     (result : Result Begun BeginFault) : Type 0 where
   pub keeps : IsWholeOrClosed told now
-  pub step : Step told faults (begin_call (trail_of before.trail) asking.session asking.number asking.text result)
+  pub step : Step told faults
+      (begin_call (trail_of before.trail) due.asking.session due.asking.number due.asking.text result)
       (begin_outcome result) (seen_of before) (seen_of now)
-  pub answers : BeginAnswers (trail_of before.trail) tree result
-  pub leaves : BeginLeaves told faults asking (seen_of before) (seen_of now) result
+  pub answers : BeginAnswers (trail_of before.trail) due.tree result
+  pub leaves : BeginLeaves told faults due.asking (seen_of before) (seen_of now) result

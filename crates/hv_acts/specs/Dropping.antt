@@ -14,7 +14,7 @@ use Rattle.hv_telling.specs.hv_house.specs.Steps.{seen_of}
 use Rattle.hv_acts.specs.Told.{IsWholeOrClosed}
 use Rattle.hv_acts.specs.Meant.{HasAtMost}
 use Rattle.hv_acts.specs.declared.fault.ActFault.{ActFault}
-use Rattle.hv_acts.specs.Answers.{answer_call, answer_outcome, NoTest, EntryFits, Answers, AnswerLeaves}
+use Rattle.hv_acts.specs.Answers.{answer_call, answer_outcome, NoTest, EntryFits, Answers, AnswerLeaves, OwnTable}
 
 -- the entry by which it is dropped, at that place
 abbrev pub drop_of : TxnId → TableId → ℕ → Entry
@@ -28,12 +28,12 @@ CanDrop trail txn table = EntryFits trail (entry.Drop txn table) × HasAtMost tr
 abbrev pub IsDroppedAt : List TrailItem → ℕ → Type 0
 IsDroppedAt trail at = at ≡ length (book_of trail)
 
--- all that is promised of a table that this transaction was to drop
-pub record DropStep {D : Type 0} (told : D → Option Store) (faults : D → ℕ) (txn : TxnId) (table : TableId)
-    (before now : House D) (result : Result ℕ ActFault) : Type 0 where
+-- all that is promised of a table that a transaction was to drop
+pub record DropStep {D : Type 0} (told : D → Option Store) (faults : D → ℕ) (own : OwnTable) (before now : House D)
+    (result : Result ℕ ActFault) : Type 0 where
   pub keeps : IsWholeOrClosed told now
-  pub step : Step told faults (answer_call (Note (entry.Drop txn table)) result) (answer_outcome result)
+  pub step : Step told faults (answer_call (Note (entry.Drop own.txn own.table)) result) (answer_outcome result)
       (seen_of before) (seen_of now)
-  pub answers : Answers NoTest (trail_of before.trail) txn (CanDrop (trail_of before.trail) txn table)
+  pub answers : Answers NoTest (trail_of before.trail) own.txn (CanDrop (trail_of before.trail) own.txn own.table)
       (IsDroppedAt (trail_of before.trail)) result
-  pub leaves : AnswerLeaves told faults txn.0 (seen_of before) (seen_of now) result
+  pub leaves : AnswerLeaves told faults own.txn.0 (seen_of before) (seen_of now) result

@@ -23,7 +23,7 @@ use Rattle.hv_acts.specs.declared.giving.Given.TheVariants as given
 use Rattle.hv_acts.specs.declared.aborted.Aborted.{Aborted}
 use Rattle.hv_acts.specs.declared.fault.ActFault.{ActFault}
 use Rattle.hv_acts.specs.Meant.{HasAtMost, RunsWith}
-use Rattle.hv_acts.specs.Answers.{call_behind, answer_outcome, NoTest, IsWhy, EntryFits, IsAbortedAt, AnswerLeaves, next_id}
+use Rattle.hv_acts.specs.Answers.{call_behind, answer_outcome, NoTest, IsWhy, EntryFits, IsAbortedAt, AnswerLeaves, OwnTable, next_id}
 use Rattle.hv_acts.specs.Aborting.{is_full}
 
 -- what is to be noted: the write id, or an abort where there is no room for it
@@ -63,11 +63,10 @@ GiveAnswers trail txn table (Ok (given.Aborted aborted)) = IsAbortedFull trail t
 GiveAnswers trail txn table (Err why) = IsWhy NoTest trail txn (RestsOnId trail txn table) why
 
 -- all that is promised of a write id that was to be given
-pub record GiveStep {D : Type 0} (told : D → Option Store) (faults : D → ℕ) (txn : TxnId) (table : TableId)
-    (before now : House D)
+pub record GiveStep {D : Type 0} (told : D → Option Store) (faults : D → ℕ) (own : OwnTable) (before now : House D)
     (result : Result Given ActFault) : Type 0 where
   pub keeps : IsWholeOrClosed told now
-  pub step : Step told faults (call_to_give (trail_of before.trail) txn table result) (answer_outcome result)
+  pub step : Step told faults (call_to_give (trail_of before.trail) own.txn own.table result) (answer_outcome result)
       (seen_of before) (seen_of now)
-  pub answers : GiveAnswers (trail_of before.trail) txn table result
-  pub leaves : AnswerLeaves told faults txn.0 (seen_of before) (seen_of now) result
+  pub answers : GiveAnswers (trail_of before.trail) own.txn own.table result
+  pub leaves : AnswerLeaves told faults own.txn.0 (seen_of before) (seen_of now) result

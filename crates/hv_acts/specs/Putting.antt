@@ -54,22 +54,22 @@ abbrev pub adds_file : TxnId → Place → Result (Unit {0}) ActFault → List T
 adds_file by place (Ok done) = Marked (Wrote (Txn by) place) ∷ []
 adds_file by place (Err why) = adds_fault by why
 
--- a file, and the place where it is to be put
+-- a file that a transaction is to put, and its place
 pub record Placed : Type 0 where
+  pub by : TxnId
   pub place : Place
   pub file : OutFile
 
-abbrev pub at_place : Place → OutFile → Placed
-at_place place file = record { place = place; file = file }
+abbrev pub at_place : TxnId → Place → OutFile → Placed
+at_place by place file = record { by = by; place = place; file = file }
 
--- all that is promised of a file that this transaction was to put
-pub record FileStep {D : Type 0} (told : D → Option Store) (faults : D → ℕ) (by : TxnId) (put : Placed)
-    (before now : House D)
+-- all that is promised of a file that was to be put
+pub record FileStep {D : Type 0} (told : D → Option Store) (faults : D → ℕ) (put : Placed) (before now : House D)
     (result : Result (Unit {0}) ActFault) : Type 0 where
   pub keeps : IsWholeOrClosed told now
-  pub step : Step told faults (answer_call (Put (Txn by) put.place (bytes_of put.file)) result) (answer_outcome result)
-      (seen_of before) (seen_of now)
-  pub answers : Answers NoTest (trail_of before.trail) by (RunsWith (trail_of before.trail) by 1)
+  pub step : Step told faults (answer_call (Put (Txn put.by) put.place (bytes_of put.file)) result)
+      (answer_outcome result) (seen_of before) (seen_of now)
+  pub answers : Answers NoTest (trail_of before.trail) put.by (RunsWith (trail_of before.trail) put.by 1)
       (λ done. IsEncoded put.file) result
-  pub leaves : AnswerLeaves told faults by.0 (seen_of before) (seen_of now) result
+  pub leaves : AnswerLeaves told faults put.by.0 (seen_of before) (seen_of now) result
   pub rises : IfErr result (WhyRises faults (seen_of before))

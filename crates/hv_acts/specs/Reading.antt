@@ -274,29 +274,44 @@ GetRises faults before (get_fault.NotOpen at) = Unit {0}
 GetRises faults before get_fault.NotFound = Unit {0}
 GetRises faults before (get_fault.House why) = FaultRises faults before why
 
--- all that is promised of a file that was to be got for this transaction
-pub record GetStep {D : Type 0} (told : D → Option Store) (faults : D → ℕ) (by : TxnId) (place : Place)
-    (before now : House D)
+-- the place of a file that a transaction is to get
+pub record Sought : Type 0 where
+  pub by : TxnId
+  pub place : Place
+
+abbrev pub sought_at : TxnId → Place → Sought
+sought_at by place = record { by = by; place = place }
+
+-- all that is promised of a file that was to be got
+pub record GetStep {D : Type 0} (told : D → Option Store) (faults : D → ℕ) (want : Sought) (before now : House D)
     (result : Result (Vec ℕ) GetFault) : Type 0 where
   pub keeps : IsWholeOrClosed told now
-  pub step : Step told faults (Read (Some (Txn by))) (get_outcome result) (seen_of before) (seen_of now)
-  pub answers : GetAnswers told (seen_of before) by place result
-  pub leaves : GetLeaves told faults by.0 (seen_of before) (seen_of now) result
+  pub step : Step told faults (Read (Some (Txn want.by))) (get_outcome result) (seen_of before) (seen_of now)
+  pub answers : GetAnswers told (seen_of before) want.by want.place result
+  pub leaves : GetLeaves told faults want.by.0 (seen_of before) (seen_of now) result
   pub rises : IfErr result (GetRises faults (seen_of before))
 
 -- ---- one reading over several acts
 
+-- a table as it stood at the place of a transaction's snapshot
+pub record TableSight : Type 0 where
+  pub by : TxnId
+  pub place : ℕ
+  pub table : Table
+
+abbrev pub table_at : TxnId → ℕ → Table → TableSight
+table_at by place table = record { by = by; place = place; table = table }
+
 -- A transaction reads a table at the place of its snapshot and sees it twice, and others act between: what it saw goes on; the files of the
 -- book stood in the store, and stand in it now; it has not ended; and the table was there at the place.
-pub record ReadsOn (before now : List TrailItem) (files files' : Tree) (by : TxnId) (place : ℕ) (table : Table) : Type 0
-  where
-    pub front : IsFront before now
-    pub book : HasFittingBook now
-    pub stood : Standing (state_at before) files
-    pub stand : Standing (state_at now) files'
-    pub reads : ReadsTable before by place table.info.table.0
-    pub here : numbered (state_then before place).tables table.info.table.0 ≡ Some table
-    pub running_now : IsUnended now by
+pub record ReadsOn (before now : List TrailItem) (files files' : Tree) (sight : TableSight) : Type 0 where
+  pub front : IsFront before now
+  pub book : HasFittingBook now
+  pub stood : Standing (state_at before) files
+  pub stand : Standing (state_at now) files'
+  pub reads : ReadsTable before sight.by sight.place sight.table.info.table.0
+  pub here : numbered (state_then before sight.place).tables sight.table.info.table.0 ≡ Some sight.table
+  pub running_now : IsUnended now sight.by
 
 -- its bytes stand there as they stood
 pub record StandsStill (files files' : Tree) (file : DirFile) : Type 0 where

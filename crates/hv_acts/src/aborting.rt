@@ -8,7 +8,7 @@ ghost use Rattle.hv_telling.specs.hv_house.specs.Housed.{ShutsHard};
 ghost use Rattle.hv_telling.specs.hv_house.specs.Steps.{seen_of};
 ghost use Rattle.hv_telling.specs.Telling.{IsToldHouse, IsWhole};
 ghost use Rattle.hv_acts.specs.Meant.{IsAbortDue};
-ghost use Rattle.hv_acts.specs.Answers.{HasItsMark, EntryStep};
+ghost use Rattle.hv_acts.specs.Answers.{HasItsMark, own_entry, EntryStep};
 
 use crate::fault::ActFault;
 use crate::noting::{next_place, note_fitting};
@@ -34,7 +34,7 @@ fn abort_for<D: Shelf>(house: &mut House<D>, txn: TxnId, cause: Cause) -> Result
     requires small { IsSmall (entry.Abort txn cause) }
     requires marked { HasItsMark (trail_of house.old.trail) txn cause }
     requires truly { IsToldHouse D.told house.old → IsAbortDue (trail_of house.old.trail) txn cause }
-    ensures noted { EntryStep D.told D.faults txn (entry.Abort txn cause) house.old house.new result }
+    ensures noted { EntryStep D.told D.faults (own_entry txn (entry.Abort txn cause)) house.old house.new result }
     ensures place { IfOk result (λ place. place ≡ length (book_of (trail_of house.old.trail))) }
     ensures hard { ShutsHard D.hard (seen_of house.new) }
 {

@@ -4,6 +4,7 @@ ghost use Rattle.hv_trail.specs.Kept.{trail_of};
 ghost use Rattle.hv_telling.specs.hv_house.specs.Housed.{ShutsHard};
 ghost use Rattle.hv_telling.specs.hv_house.specs.Steps.{seen_of};
 ghost use Rattle.hv_telling.specs.Telling.{IsToldHouse, IsWhole};
+ghost use Rattle.hv_acts.specs.Answers.{own_table};
 ghost use Rattle.hv_acts.specs.Meant.{IsDropMeant};
 ghost use Rattle.hv_acts.specs.Dropping.{DropStep};
 
@@ -29,7 +30,7 @@ fn drop_table<D: Shelf>(house: &mut House<D>, txn: TxnId, table: TableId) -> Res
     requires whole { IsWhole D.told house.old }
     requires hard { ShutsHard D.hard (seen_of house.old) }
     requires truly { IsToldHouse D.told house.old → IsDropMeant (trail_of house.old.trail) txn table }
-    ensures dropped { DropStep D.told D.faults txn table house.old house.new result }
+    ensures dropped { DropStep D.told D.faults (own_table txn table) house.old house.new result }
     ensures place { IfOk result (λ place. place ≡ length (book_of (trail_of house.old.trail))) }
     ensures hard { ShutsHard D.hard (seen_of house.new) }
 {

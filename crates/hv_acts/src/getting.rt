@@ -1,7 +1,7 @@
 ghost use Rattle.hv_telling.specs.hv_house.specs.Housed.{ShutsHard};
 ghost use Rattle.hv_telling.specs.hv_house.specs.Steps.{seen_of};
 ghost use Rattle.hv_telling.specs.Telling.{IsWhole};
-ghost use Rattle.hv_acts.specs.Reading.{GetStep};
+ghost use Rattle.hv_acts.specs.Reading.{sought_at, GetStep};
 
 use crate::told::ToldHouse;
 use hv_actor::Act;
@@ -25,7 +25,7 @@ fn get_file<D: Shelf>(
 ) -> Result<Vec<u8>, GetFault>
     requires whole { IsWhole D.told house.old }
     requires hard { ShutsHard D.hard (seen_of house.old) }
-    ensures got { GetStep D.told D.faults by place.now house.old house.new result }
+    ensures got { GetStep D.told D.faults (sought_at by place.now) house.old house.new result }
     ensures hard { ShutsHard D.hard (seen_of house.new) }
 {
     house.get(alloc, by, place)

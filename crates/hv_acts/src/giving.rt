@@ -5,7 +5,7 @@ ghost use Rattle.hv_trail.specs.Kept.{trail_of};
 ghost use Rattle.hv_telling.specs.hv_house.specs.Housed.{ShutsHard};
 ghost use Rattle.hv_telling.specs.hv_house.specs.Steps.{seen_of};
 ghost use Rattle.hv_telling.specs.Telling.{IsToldHouse, IsWhole};
-ghost use Rattle.hv_acts.specs.Answers.{next_id};
+ghost use Rattle.hv_acts.specs.Answers.{next_id, own_table};
 ghost use Rattle.hv_acts.specs.Giving.{GiveStep};
 ghost use Rattle.hv_acts.specs.Meant.{RunsWith, IsIdDue};
 
@@ -58,7 +58,7 @@ fn give_none<D: Shelf>(
     requires full { Of (state_at (trail_of house.old.trail)) txn.0
         (FullFits profile (state_at (trail_of house.old.trail))) }
     requires truly { IsToldHouse D.told house.old → IsIdDue (trail_of house.old.trail) txn table }
-    ensures given { GiveStep D.told D.faults txn table house.old house.new result }
+    ensures given { GiveStep D.told D.faults (own_table txn table) house.old house.new result }
     ensures hard { ShutsHard D.hard (seen_of house.new) }
 {
     match abort_full(alloc, house, txn) {
@@ -75,7 +75,7 @@ fn give_next<D: Shelf>(house: &mut House<D>, txn: TxnId, table: TableId) -> Resu
     requires runs { RunsWith (trail_of house.old.trail) txn 0 }
     requires room { Of (state_at (trail_of house.old.trail)) txn.0
         (FullFits profile (state_at (trail_of house.old.trail))) → ⊥ }
-    ensures given { GiveStep D.told D.faults txn table house.old house.new result }
+    ensures given { GiveStep D.told D.faults (own_table txn table) house.old house.new result }
     ensures hard { ShutsHard D.hard (seen_of house.new) }
 {
     let write = next_id(house, table);
@@ -94,7 +94,7 @@ fn give_id<D: Shelf>(
     requires whole { IsWhole D.told house.old }
     requires hard { ShutsHard D.hard (seen_of house.old) }
     requires truly { IsToldHouse D.told house.old → IsIdDue (trail_of house.old.trail) txn table }
-    ensures given { GiveStep D.told D.faults txn table house.old house.new result }
+    ensures given { GiveStep D.told D.faults (own_table txn table) house.old house.new result }
     ensures hard { ShutsHard D.hard (seen_of house.new) }
 {
     if !runs_with(house, txn, 0) {

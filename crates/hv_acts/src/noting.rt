@@ -12,7 +12,7 @@ ghost use Rattle.hv_telling.specs.hv_house.specs.House.{entries_of, IsReady, IsS
 ghost use Rattle.hv_telling.specs.hv_house.specs.Housed.{ShutsHard};
 ghost use Rattle.hv_telling.specs.Telling.{IsToldHouse, IsWhole, IsTrueNow};
 ghost use Rattle.hv_telling.specs.hv_house.specs.Steps.{seen_of, IsMarked};
-ghost use Rattle.hv_acts.specs.Answers.{IsLate, EntryFits, EntryStep, OpensNone, HasItsMark, aborted_line};
+ghost use Rattle.hv_acts.specs.Answers.{IsLate, EntryFits, own_entry, EntryStep, OpensNone, HasItsMark, aborted_line};
 ghost use Rattle.hv_acts.specs.Aborting.{AbortStep, abort_of};
 ghost use Rattle.hv_acts.specs.Meant.{RunsWith, IsCauseTrue};
 
@@ -98,7 +98,7 @@ pub(crate) fn note_fitting<D: Shelf>(
     requires marked { IsMarked house.old entry }
     requires truly { IsToldHouse D.told house.old → EntryFits (trail_of house.old.trail) entry
         → IsTrueNow (entries_of house.old) (trail_of house.old.trail) entry }
-    ensures noted { EntryStep D.told D.faults txn entry house.old house.new result }
+    ensures noted { EntryStep D.told D.faults (own_entry txn entry) house.old house.new result }
     ensures hard { ShutsHard D.hard (seen_of house.new) }
 {
     if !house.fits(&entry, None) {
@@ -146,7 +146,7 @@ pub(crate) fn note_abort<D: Shelf>(
     requires truly { IsToldHouse D.told house.old → IsCauseTrue (trail_of house.old.trail) txn cause }
     requires place { aborted.at ≡ length (book_of (trail_of house.old.trail)) }
     requires same { aborted.cause ≡ cause }
-    ensures noted { AbortStep D.told D.faults txn (abort_of cause aborted.text) house.old house.new result }
+    ensures noted { AbortStep D.told D.faults (abort_of txn cause aborted.text) house.old house.new result }
     ensures hard { ShutsHard D.hard (seen_of house.new) }
 {
     match note(house, Entry::Abort { txn, cause }, None) {
@@ -169,7 +169,7 @@ pub(crate) fn abort_full<D: Shelf>(
     requires full { Of (state_at (trail_of house.old.trail)) txn.0
         (FullFits profile (state_at (trail_of house.old.trail))) }
     requires truly { IsToldHouse D.told house.old → IsCauseTrue (trail_of house.old.trail) txn cause.Full }
-    ensures noted { AbortStep D.told D.faults txn (abort_of cause.Full (aborted_line cause.Full)) house.old house.new
+    ensures noted { AbortStep D.told D.faults (abort_of txn cause.Full (aborted_line cause.Full)) house.old house.new
         result }
     ensures hard { ShutsHard D.hard (seen_of house.new) }
 {

@@ -5,7 +5,7 @@ ghost use Rattle.hv_telling.specs.hv_house.specs.House.{IsReady};
 ghost use Rattle.hv_telling.specs.hv_house.specs.Housed.{ShutsHard};
 ghost use Rattle.hv_telling.specs.hv_house.specs.Steps.{seen_of};
 ghost use Rattle.hv_telling.specs.Telling.{IsWhole};
-ghost use Rattle.hv_acts.specs.Beginning.{IsHindered, BeginStep};
+ghost use Rattle.hv_acts.specs.Beginning.{IsHindered, begin_of, BeginStep};
 
 use crate::fault::BeginFault;
 use crate::noting::next_place;
@@ -60,8 +60,8 @@ fn begin_free<D: Shelf>(
     requires runs { Runs text tree }
     requires short { length text ≤ 32768 }
     requires named { length session ≤ 32 }
-    ensures begun { BeginStep D.told D.faults (record { session = session; number = number; text = text }) tree
-        house.old house.new result }
+    ensures begun { BeginStep D.told D.faults
+        (begin_of (record { session = session; number = number; text = text }) tree) house.old house.new result }
     ensures hard { ShutsHard D.hard (seen_of house.new) }
 {
     if !house.can_begin(&tree) {

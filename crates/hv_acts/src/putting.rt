@@ -37,7 +37,7 @@ fn put_running<D: Shelf>(
     requires can { CanPut file.now }
     requires given { HasIdFor (trail_of house.old.trail) by place file.now }
     requires truly { IsToldHouse D.told house.old → IsFileMeant (trail_of house.old.trail) by place file.now }
-    ensures put { FileStep D.told D.faults by (at_place place file.now) house.old house.new result }
+    ensures put { FileStep D.told D.faults (at_place by place file.now) house.old house.new result }
     ensures hard { ShutsHard D.hard (seen_of house.new) }
 {
     if !runs_with(house, by, 1) {

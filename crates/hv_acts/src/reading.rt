@@ -17,7 +17,7 @@ ghost use Rattle.hv_trail.specs.Steps.{HouseSeen};
 ghost use Rattle.hv_telling.specs.hv_house.specs.Listing.{AreTaken};
 ghost use Rattle.hv_telling.specs.hv_house.specs.declared.listing.Listing.{Listing};
 ghost use Rattle.hv_telling.specs.hv_house.specs.Seeing.{ids_in};
-ghost use Rattle.hv_acts.specs.Reading.{HasPlace, state_then, HasFittingBook, HasReader, ReadsTable, info_then, IsThere, ReadsOn, AllStandStill, ReadsOnTold, HasListed, AllGotStill};
+ghost use Rattle.hv_acts.specs.Reading.{HasPlace, state_then, HasFittingBook, HasReader, ReadsTable, info_then, IsThere, table_at, ReadsOn, AllStandStill, ReadsOnTold, HasListed, AllGotStill};
 
 /// A place of a book is one of every longer book, and the entries before it are the same: so are the table of a name there and
 /// the list of a table's write ids.
@@ -61,7 +61,7 @@ pub fn who_is_under_way_reads()
 pub fn what_was_listed_stands()
     ensures stand { (before now : List TrailItem) (files files' : Tree) (by : TxnId) (place : ℕ) (table : Table)
         (inserts deletes : List DirFile)
-        → ReadsOn before now files files' by place table
+        → ReadsOn before now files files' (table_at by place table)
         → AreTaken table.info.table (ids_in (state_then before place) table.info.table.0) files inserts deletes
         → AllStandStill files files' inserts × AllStandStill files files' deletes }
 {}

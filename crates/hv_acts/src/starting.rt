@@ -170,8 +170,8 @@ fn abort_blocked<D: Shelf>(
     requires whole { IsWhole D.told house.old }
     requires hard { ShutsHard D.hard (seen_of house.old) }
     requires held { IsHeld (trail_of house.old.trail) txn holder }
-    ensures noted { AbortStep D.told D.faults txn
-        (abort_of (cause.Blocked holder) (aborted_line (cause.Blocked holder))) house.old house.new result }
+    ensures noted { AbortStep D.told D.faults
+        (abort_of txn (cause.Blocked holder) (aborted_line (cause.Blocked holder))) house.old house.new result }
     ensures hard { ShutsHard D.hard (seen_of house.new) }
 {
     let at = next_place(house);

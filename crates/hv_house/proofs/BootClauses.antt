@@ -21,8 +21,8 @@ use Rattle.hv_house.specs.declared.boot.BootFault.TheVariants as fault
 use Rattle.hv_house.specs.declared.house.House.{House}
 use Rattle.hv_house.specs.Faults.{StoreCause}
 use Rattle.hv_house.specs.House.{entries_of}
-use Rattle.hv_house.specs.Ending.{IsCutBefore}
-use Rattle.hv_house.specs.Booting.{opening_entries, opening_with, IsLeftWithin, OpensWithin, IsIdle, open_fault, IsBootStore, IsFullAt, IsBootFault, IsCutOpening, IsOpenStill, StopsOpening, StopsOpen, OpensWhole, KeepsIdle, NotesWithRoom, StopsWithRoom, IsRaiseFault, Opens, OpeningGoes, OpeningStops, IsRaisedOver, CutsBefore, StopsOver, IsCutShortOf, OpeningHard}
+use Rattle.hv_house.specs.Ending.{gauged, IsCutBefore}
+use Rattle.hv_house.specs.Booting.{opening_entries, opening_with, IsLeftWithin, OpensWithin, IsIdle, open_fault, IsBootStore, IsFullAt, IsBootFault, IsCutOpening, IsOpenStill, StopsOpening, StopsOpen, OpensWhole, KeepsIdle, NotesWithRoom, StopsWithRoom, IsRaiseFault, Opens, OpeningGoes, OpeningStops, read_to, IsRaisedOver, CutsBefore, StopsOver, IsCutShortOf, OpeningHard}
 use Rattle.hv_house.proofs.EndSteps.{moves-tells, tells-moves, tells-also}
 use Rattle.hv_house.proofs.Booted.{whole-stands, opens-still, stops-front, cut-of, nothing-front, nothing-still, idle-kept, idle-stopped}
 
@@ -74,7 +74,7 @@ nothing-roomy limits (Some s) = λ b reads. inl reads.journal
 
 module _ {D : Type 0} (told : D → Option Store) (faults hard : D → ℕ) (limits : Limits) (start : D) (book : List Entry) (first shelf : D) (same : told shelf ≡ told first)
     (most : limits.entries ≤ 9999999) (reads : Tells (told first) (λ s. IsJournalOf limits book s.journal)) (now : House D)
-    (raised : IsRaisedOver told faults hard limits start shelf book now) where
+    (raised : IsRaisedOver (gauged told faults hard) limits start (read_to shelf book) now) where
   whole-first : Tells (told first) (λ s. raised.whole ≡ whole_jobs (state_of book) s.tree)
   whole-first = subst (λ (o : Option Store). Tells o (λ s. raised.whole ≡ whole_jobs (state_of book) s.tree)) same raised.whole_are
 
@@ -126,7 +126,7 @@ module _ {D : Type 0} (told : D → Option Store) (faults hard : D → ℕ) (lim
 
 module _ {D : Type 0} (told : D → Option Store) (faults hard : D → ℕ) (limits : Limits) (book : List Entry) (first shelf : D) (same : told shelf ≡ told first)
     (most : limits.entries ≤ 9999999) (reads : Tells (told first) (λ s. IsJournalOf limits book s.journal)) (given : BootFault × D)
-    (stopped : StopsOver told faults hard shelf book given) where
+    (stopped : StopsOver (gauged told faults hard) shelf book given) where
   abbrev Stopped : Store → Store → Type 0
   Stopped s t = IsJournalOf limits book s.journal × OpeningStops (whole_jobs (state_of book) s.tree) book s t
 

@@ -20,7 +20,7 @@ use Rattle.hv_house.specs.declared.boot.BootFault.TheVariants as fault
 use Rattle.hv_house.specs.declared.house.House.{House}
 use Rattle.hv_house.specs.House.{entries_of, book_limit, IsKept}
 use Rattle.hv_house.specs.Steps.{KeepsMarks}
-use Rattle.hv_house.specs.Ending.{IsSame, IsGivingUp, EndGoes, EndBegins, StopsAt, EndStep, ends_of, EndsGo, state_behind, IsGivingNext, EndsStop, IsCutBefore, AllEnd}
+use Rattle.hv_house.specs.Ending.{IsSame, IsGivingUp, EndGoes, EndBegins, StopsAt, Gauge, gauged, ends_by, EndStep, ends_of, EndsGo, state_behind, IsGivingNext, EndsStop, IsCutBefore, AllEnd}
 use Rattle.hv_house.proofs.JobEnds.{jobs-beyond, end-fits, ends-many, ends-append, goes-append, job-at, take-job, split-job, take-long, take-fewer, take-past}
 use Rattle.hv_house.proofs.EndSteps.{tells-also, same-marks, marks-then}
 
@@ -204,11 +204,13 @@ module _ (whole : List ℕ) (book now : List Entry) (i : ℕ) (at_now : now ≡ 
 -- ---- over a store that tells
 
 -- the step by which the next one ends
-abbrev EndsNext : {D : Type 0} → (D → Option Store) → (D → ℕ) → (D → ℕ) → List ℕ → House D → House D → ℕ → Result (Unit {0}) BootFault → Type 0
-EndsNext told faults hard whole now next i result =
-    EndStep told faults hard (EndBegins whole (state_of (entries_of now)) (i + 1) (numbered (state_of (entries_of now)).jobs (i + 1)))
+abbrev EndsNext : {D : Type 0} → Gauge D → List ℕ → House D → House D → ℕ → Result (Unit {0}) BootFault → Type 0
+EndsNext gauge whole now next i result =
+    EndStep gauge
+    (ends_by (EndBegins whole (state_of (entries_of now)) (i + 1) (numbered (state_of (entries_of now)).jobs (i + 1)))
     (EndGoes whole (state_of (entries_of now)) (i + 1) (numbered (state_of (entries_of now)).jobs (i + 1)))
-    (end_entries whole (state_of (entries_of now)) (i + 1) (numbered (state_of (entries_of now)).jobs (i + 1))) now next result
+    (end_entries whole (state_of (entries_of now)) (i + 1) (numbered (state_of (entries_of now)).jobs (i + 1))))
+    now next result
 
 -- the first ones went so, over a store
 abbrev FrontGoes : List ℕ → List Entry → ℕ → Store → Store → Type 0
@@ -220,7 +222,7 @@ module _ {D : Type 0} (told : D → Option Store) (faults hard : D → ℕ) (who
       → length (entries_of now) + length (end_entries whole (state_of (entries_of now)) (i + 1) (numbered (state_of (entries_of now)).jobs (i + 1))) ≤ book_limit
   ending-room room = room-next whole (entries_of first) (entries_of now) i so_far.entries low room
 
-  pub ending-next : (next : House D) → EndsNext told faults hard whole now next i (Ok tt) → IsEnding told faults hard whole first next (i + 1)
+  pub ending-next : (next : House D) → EndsNext (gauged told faults hard) whole now next i (Ok tt) → IsEnding told faults hard whole first next (i + 1)
   ending-next next step = record {
     kept = step.kept;
     entries = step.entries ∙ next-book whole (entries_of first) (entries_of now) i so_far.entries low;
@@ -239,7 +241,7 @@ module _ {D : Type 0} (told : D → Option Store) (faults hard : D → ℕ) (who
     hard_later = (let a = so_far.hard_later in let b = step.cause.hard_later in omega (arith, a, b));
   }
 
-  module _ (next : House D) (why : BootFault) (step : EndsNext told faults hard whole now next i (Err why)) where
+  module _ (next : House D) (why : BootFault) (step : EndsNext (gauged told faults hard) whole now next i (Err why)) where
     hard-over : Rose (hard now.shelf) (hard next.shelf) ⊎ Tells (told next.shelf) (λ t. IsJournal (entries_of now) t.journal)
         → Rose (hard first.shelf) (hard next.shelf)
         ⊎ Tells (told next.shelf) (λ t. IsCutBefore (entries_of first) (ends_of whole (entries_of first)) t.journal)
@@ -248,7 +250,7 @@ module _ {D : Type 0} (told : D → Option Store) (faults hard : D → ℕ) (who
         inr (tells-also (λ t. IsJournal (entries_of now) t.journal) (λ t. IsCutBefore (entries_of first) (ends_of whole (entries_of first)) t.journal)
         (λ t reads. cut-before whole (entries_of first) (entries_of now) i so_far.entries low step.one.0 step.one.1 t.journal reads) (told next.shelf) journal)
 
-    stopped : AllEnd told faults hard whole first next (Err why)
+    stopped : AllEnd (gauged told faults hard) whole first next (Err why)
     stopped = record {
       kept = tt;
       entries = tt;
@@ -276,15 +278,16 @@ module _ {D : Type 0} (told : D → Option Store) (faults hard : D → ℕ) (who
 
     -- by what `?` passes on
     pub ending-stops : (left : BootFault) (result : Result (Unit {0}) BootFault) → result ≡ Err left → left ≡ why
-        → AllEnd told faults hard whole first next result
-    ending-stops left result is same = subst (AllEnd told faults hard whole first next) (sym (is ∙ ap (λ (f : BootFault). Err f) same)) stopped
+        → AllEnd (gauged told faults hard) whole first next result
+    ending-stops left result is same = subst (AllEnd (gauged told faults hard) whole first next) (sym (is ∙ ap (λ (f : BootFault). Err f) same)) stopped
 
 never-failed : IsErrOf {T = Unit {0}} {E = BootFault} (Ok tt) fault.Store → ⊥
 never-failed is = cc
 
 -- all of them have
 pub ending-done : {D : Type 0} (told : D → Option Store) (faults hard : D → ℕ) (whole : List ℕ) (first now : House D) (i : ℕ)
-    → length (state_of (entries_of first)).jobs ≤ i → IsEnding told faults hard whole first now i → AllEnd told faults hard whole first now (Ok tt)
+    → length (state_of (entries_of first)).jobs ≤ i → IsEnding told faults hard whole first now i
+    → AllEnd (gauged told faults hard) whole first now (Ok tt)
 ending-done told faults hard whole first now i past so_far =
     let all : take i (state_of (entries_of first)).jobs ≡ (state_of (entries_of first)).jobs = take-past (state_of (entries_of first)).jobs i past in
     record {

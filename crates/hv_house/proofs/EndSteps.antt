@@ -32,7 +32,7 @@ use Rattle.hv_house.specs.Faults.{HasRisen, HardStep, EndsRun}
 use Rattle.hv_house.specs.House.{entries_of, IsKept, IsNoted, IsHalted, Leaves, IsBeside}
 use Rattle.hv_house.specs.Steps.{KeepsMarks, ClosesBy}
 use Rattle.hv_house.specs.Booting.{boot_fault}
-use Rattle.hv_house.specs.Ending.{IsSame, JobGoes, SomeJobGoes, JobDirsGo, SomeJobDirsGo, GoesAs, BeginsAs, IsGivingUp, EndGoes, EndBegins, StopsAt, EndsBoot, EndStep}
+use Rattle.hv_house.specs.Ending.{IsSame, JobGoes, SomeJobGoes, JobDirsGo, SomeJobDirsGo, GoesAs, BeginsAs, IsGivingUp, EndGoes, EndBegins, StopsAt, EndsBoot, gauged, ends_by, EndStep}
 use Rattle.hv_house.proofs.Lengths.{short_gone, short_left, short_published}
 use Rattle.hv_house.proofs.Boots.{reads-journal}
 
@@ -121,7 +121,7 @@ module _ (book : List Entry) (e : Entry) where
 
 module _ {D : Type 0} (told : D → Option Store) (faults hard : D → ℕ) (e : Entry) (before now : House D) where
   pub noted-step : IsNoted told e before now → KeepsMarks before now → faults before.shelf ≤ faults now.shelf → hard before.shelf ≤ hard now.shelf
-      → EndStep told faults hard IsSame IsSame (e ∷ []) before now (Ok tt)
+      → EndStep (gauged told faults hard) (ends_by IsSame IsSame (e ∷ [])) before now (Ok tt)
   noted-step noted marks later hard_later = record {
     kept = noted.kept;
     entries = noted.entries;
@@ -142,7 +142,7 @@ module _ {D : Type 0} (told : D → Option Store) (faults hard : D → ℕ) (e :
   pub halted-step : (why : HouseFault) → IsHalted told e why before now → KeepsMarks before now → ClosesBy why before.trail.closed now.trail.closed → EndsRun why
       → faults before.shelf ≤ faults now.shelf → HasRisen (faults before.shelf) (faults now.shelf) why
       → HardStep (hard before.shelf) (hard now.shelf) before.trail.closed now.trail.closed → before.trail.closed ≡ false
-      → EndStep told faults hard IsSame IsSame (e ∷ []) before now (Err (boot_fault why))
+      → EndStep (gauged told faults hard) (ends_by IsSame IsSame (e ∷ [])) before now (Err (boot_fault why))
   halted-step why halted marks closes ends later risen step running = record {
     kept = tt;
     entries = tt;
@@ -164,16 +164,18 @@ module _ {D : Type 0} (told : D → Option Store) (faults hard : D → ℕ) (e :
 -- an error that `?` passes on, by what it is called there
 pub raised-step : {D : Type 0} (told : D → Option Store) (faults hard : D → ℕ) (begins goes : Tree → Tree → Type 0) (more : List Entry) (before now : House D)
     (why left : BootFault) (result : Result (Unit {0}) BootFault) → result ≡ Err left → left ≡ why
-    → EndStep told faults hard begins goes more before now (Err why) → EndStep told faults hard begins goes more before now result
+    → EndStep (gauged told faults hard) (ends_by begins goes more) before now (Err why)
+    → EndStep (gauged told faults hard) (ends_by begins goes more) before now result
 raised-step told faults hard begins goes more before now why left result is same step =
-    subst (EndStep told faults hard begins goes more before now) (sym (is ∙ ap (λ (f : BootFault). Err f) same)) step
+    subst (EndStep (gauged told faults hard) (ends_by begins goes more) before now) (sym (is ∙ ap (λ (f : BootFault). Err f) same)) step
 
 -- by other words for how files go, and for what is noted
 pub step-as : {D : Type 0} (told : D → Option Store) (faults hard : D → ℕ) (begins goes begins' goes' : Tree → Tree → Type 0) (more more' : List Entry)
     (before now : House D) (result : Result (Unit {0}) BootFault) → ((a b : Tree) → begins a b → begins' a b) → ((a b : Tree) → goes a b → goes' a b)
-    → more ≡ more' → EndStep told faults hard begins goes more before now result → EndStep told faults hard begins' goes' more' before now result
+    → more ≡ more' → EndStep (gauged told faults hard) (ends_by begins goes more) before now result
+    → EndStep (gauged told faults hard) (ends_by begins' goes' more') before now result
 step-as told faults hard begins goes begins' goes' more more' before now result begin go same step =
-    subst (λ (es : List Entry). EndStep told faults hard begins' goes' es before now result) same (record {
+    subst (λ (es : List Entry). EndStep (gauged told faults hard) (ends_by begins' goes' es) before now result) same (record {
       kept = step.kept;
       entries = step.entries;
       went =
@@ -246,7 +248,7 @@ module _ {D : Type 0} (told : D → Option Store) (faults hard : D → ℕ) (n :
   pub cleared-stops : (e : Entry) (before now : House D) (why : BootFault) → IsKept told before
       → Moves (SomeJobDirsGo (entries_of before) n) (told before.shelf) (told now.shelf) → KeepsMarks before now
       → CallsCause (IsErrOf {T = Unit {0}} (Err why) fault.Store) (faults before.shelf) (faults now.shelf) (hard before.shelf) (hard now.shelf) → EndsBoot why
-      → EndStep told faults hard (SomeJobGoes (entries_of before) n) (JobGoes (entries_of before) n) (e ∷ []) before now (Err why)
+      → EndStep (gauged told faults hard) (ends_by (SomeJobGoes (entries_of before) n) (JobGoes (entries_of before) n) (e ∷ [])) before now (Err why)
   cleared-stops e before now why kept moves marks cause ends = record {
     kept = tt;
     entries = tt;
@@ -295,7 +297,8 @@ module _ {D : Type 0} (told : D → Option Store) (faults hard : D → ℕ) (n :
 
     pub gone-then : KeepsMarks before mid
         → CallsCause (IsErrOf {T = Unit {0}} {E = BootFault} (Ok tt) fault.Store) (faults before.shelf) (faults mid.shelf) (hard before.shelf) (hard mid.shelf)
-        → EndStep told faults hard IsSame IsSame more mid now result → EndStep told faults hard (SomeJobGoes first n) (JobGoes first n) more before now result
+        → EndStep (gauged told faults hard) (ends_by IsSame IsSame more) mid now result
+        → EndStep (gauged told faults hard) (ends_by (SomeJobGoes first n) (JobGoes first n) more) before now result
     gone-then marks cause step = record {
       kept = step.kept;
       entries =
@@ -391,16 +394,17 @@ kept-beside told n before mid beside went kept =
 module _ {D : Type 0} (told : D → Option Store) (faults hard : D → ℕ) (n : ℕ) (end : JobEnd) (before now : House D) (result : Result (Unit {0}) BootFault) where
   abbrev AsEnd : JobEnd → Type 0
   AsEnd it =
-      EndStep told faults hard (BeginsAs (entries_of before) n (is_publication it)) (GoesAs (entries_of before) n (is_publication it)) (entry_of n it ∷ [])
-      before now result
+      EndStep (gauged told faults hard)
+      (ends_by (BeginsAs (entries_of before) n (is_publication it)) (GoesAs (entries_of before) n (is_publication it)) (entry_of n it ∷ [])) before now result
 
   pub as-published : (range : JobRange) (e : Entry) → end ≡ its_end.Published range → e ≡ entry_of n (its_end.Published range)
-      → EndStep told faults hard IsSame IsSame (e ∷ []) before now result → AsEnd end
+      → EndStep (gauged told faults hard) (ends_by IsSame IsSame (e ∷ [])) before now result → AsEnd end
   as-published range e is same step =
-      subst AsEnd (sym is) (subst (λ (x : Entry). EndStep told faults hard IsSame IsSame (x ∷ []) before now result) same step)
+      subst AsEnd (sym is) (subst (λ (x : Entry). EndStep (gauged told faults hard) (ends_by IsSame IsSame (x ∷ [])) before now result) same step)
 
   pub as-failed : (gone : Bool) → end ≡ its_end.Failed gone
-      → EndStep told faults hard (SomeJobGoes (entries_of before) n) (JobGoes (entries_of before) n) (entry_of n (its_end.Failed gone) ∷ []) before now result → AsEnd end
+      → EndStep (gauged told faults hard)
+      (ends_by (SomeJobGoes (entries_of before) n) (JobGoes (entries_of before) n) (entry_of n (its_end.Failed gone) ∷ [])) before now result → AsEnd end
   as-failed gone is step = subst AsEnd (sym is) step
 
 -- of its number
@@ -454,8 +458,8 @@ module _ {D : Type 0} (told : D → Option Store) (faults hard : D → ℕ) (who
   -- it ends so
   pub ended-step : (it : JobEnd) (now : House D) (result : Result (Unit {0}) BootFault) → EndsAs whole its n it
       → entries_of_end n (Some it) ≡ end_entries whole its n (numbered its.jobs n) → AsEnd told faults hard n it before now result it
-      → EndStep told faults hard (EndBegins whole its n (numbered its.jobs n)) (EndGoes whole its n (numbered its.jobs n))
-      (end_entries whole its n (numbered its.jobs n)) before now result
+      → EndStep (gauged told faults hard) (ends_by (EndBegins whole its n (numbered its.jobs n)) (EndGoes whole its n (numbered its.jobs n))
+      (end_entries whole its n (numbered its.jobs n))) before now result
   ended-step it now result how is step =
       step-as told faults hard (BeginsAs (entries_of before) n (is_publication it)) (GoesAs (entries_of before) n (is_publication it))
       (EndBegins whole its n (numbered its.jobs n)) (EndGoes whole its n (numbered its.jobs n)) (entry_of n it ∷ []) (end_entries whole its n (numbered its.jobs n))
@@ -463,8 +467,8 @@ module _ {D : Type 0} (told : D → Option Store) (faults hard : D → ℕ) (who
 
   -- it isn't at work
   pub idle-step : IsKept told before → works_at (numbered its.jobs n) ≡ false → entries_of_end n None ≡ end_entries whole its n (numbered its.jobs n)
-      → EndStep told faults hard (EndBegins whole its n (numbered its.jobs n)) (EndGoes whole its n (numbered its.jobs n))
-      (end_entries whole its n (numbered its.jobs n)) before before (Ok tt)
+      → EndStep (gauged told faults hard) (ends_by (EndBegins whole its n (numbered its.jobs n)) (EndGoes whole its n (numbered its.jobs n))
+      (end_entries whole its n (numbered its.jobs n))) before before (Ok tt)
   idle-step kept idle none = record {
     kept = kept;
     entries = sym (append-nil (entries_of before)) ∙ ap (λ (es : List Entry). entries_of before ++ es) none;

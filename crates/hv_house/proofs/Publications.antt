@@ -23,7 +23,7 @@ use Rattle.hv_house.specs.declared.renaming.RenameFault.{RenameFault}
 use Rattle.hv_house.specs.Faults.{HasRisen, EndsRun, HardStep}
 use Rattle.hv_house.specs.House.{IsReadyWithin, IsNoted, IsHalted, KeepsJournal}
 use Rattle.hv_house.specs.Steps.{seen_of, fault_outcome}
-use Rattle.hv_house.specs.Publishing.{IsUntouched, CutsBy, RenamesCause, IsFailed, IsRoomy, stop_by, ClosesFor, StarvesFor, StopsRenaming, StarvesNoting, IsToldOf, PublishStepWithin, told_fault, IsStarvedFrom, StopsTelling}
+use Rattle.hv_house.specs.Publishing.{IsUntouched, CutsBy, RenamesCause, IsFailed, IsRoomy, stop_by, ClosesFor, StarvesFor, StopsRenaming, StarvesNoting, measured, IsToldOf, PublishStepWithin, told_fault, IsStarvedFrom, StopsTelling}
 use Rattle.hv_house.proofs.Hards.{left_step}
 use Rattle.hv_house.proofs.Readings.{gains-nothing}
 use Rattle.hv_house.proofs.Ready.{put-ready, asked-ready}
@@ -116,8 +116,8 @@ module _ {D : Type 0} (limits : Limits) (told : D → Option Store) (faults : D 
     risen-over house.NoMemory risen = tt
     risen-over (house.Failed count) risen = (risen.0, (let above = risen.1 in omega (arith, later, above)))
 
-    pub published-by : (result : Result (Unit {0}) PublishFault) → IsToldOf limits told faults event named now result
-        → PublishStepWithin limits told faults renamings event before now result
+    pub published-by : (result : Result (Unit {0}) PublishFault) → IsToldOf (measured limits told faults) event named now result
+        → PublishStepWithin (measured limits told faults) renamings event before now result
     published-by (Ok x) is = record {
       ready = is.ready;
       noted = is.noted;
@@ -197,7 +197,7 @@ module _ {D : Type 0} (limits : Limits) (told : D → Option Store) (faults : D 
   cut-ends : (begun : Bool) (why : ShelfFault) → Moves (CutsBy renamings (record { begun = begun; why = why })) (told before.shelf) (told s)
       → faults before.shelf ≤ faults s → (why ≡ shelf.Failed → Rose (faults before.shelf) (faults s))
       → StopsRenaming (record { begun = begun; why = why }) part_named now
-      → PublishStepWithin limits told faults renamings event before now (Err (stop_by begun why))
+      → PublishStepWithin (measured limits told faults) renamings event before now (Err (stop_by begun why))
   cut-ends begun shelf.Failed cut later failed stops =
       let fault_ : RenameFault = record { begun = begun; why = shelf.Failed } in
       record {
@@ -272,16 +272,16 @@ module _ {D : Type 0} (limits : Limits) (told : D → Option Store) (faults : D 
   pub stopped-by : (T : Type 0) (why : RenameFault) (hard : D → ℕ) (result : PublishFault) → result ≡ stop_by why.begun why.why
       → Moves (CutsBy renamings why) (told before.shelf) (told s)
       → RenamesCause (IsFailed {T = T} (Err why)) (faults before.shelf) (faults s) (hard before.shelf) (hard s)
-      → StopsRenaming why part_named now → PublishStepWithin limits told faults renamings event before now (Err result)
+      → StopsRenaming why part_named now → PublishStepWithin (measured limits told faults) renamings event before now (Err result)
   stopped-by T why hard result is cut cause stops =
-      subst (λ (w : PublishFault). PublishStepWithin limits told faults renamings event before now (Err w)) (sym is)
+      subst (λ (w : PublishFault). PublishStepWithin (measured limits told faults) renamings event before now (Err w)) (sym is)
       (cut-ends why.begun why.why cut cause.later cause.failed stops)
 
 -- ---- there was no room
 
 pub roomless : {D : Type 0} (limits : Limits) (told : D → Option Store) (faults : D → ℕ) (renamings : List Renaming) (event : Entry) (before now : House D)
     → IsReadyWithin limits told before → IsRoomy before now
-    → PublishStepWithin limits told faults renamings event before now (Err (fault.House house.NoMemory))
+    → PublishStepWithin (measured limits told faults) renamings event before now (Err (fault.House house.NoMemory))
 roomless limits told faults renamings event before now ready roomy = record {
   ready = tt;
   noted = tt;
@@ -315,7 +315,7 @@ roomless limits told faults renamings event before now ready roomy = record {
 
 module _ {D : Type 0} (limits : Limits) (told : D → Option Store) (faults : D → ℕ) (event : Entry) (before : House D) where
   pub told-done : (now : House D) (x : Unit {0}) → IsReadyWithin limits told now → IsNoted told event before now
-      → Step told faults (Note event) Done (seen_of before) (seen_of now) → IsToldOf limits told faults event before now (Ok x)
+      → Step told faults (Note event) Done (seen_of before) (seen_of now) → IsToldOf (measured limits told faults) event before now (Ok x)
   told-done now x ready noted step = record {
     ready = ready;
     noted = noted.entries;
@@ -326,7 +326,7 @@ module _ {D : Type 0} (limits : Limits) (told : D → Option Store) (faults : D 
   }
 
   told-shut : (now : House D) → IsHalted told event house.Store before now → HasRisen (faults before.shelf) (faults now.shelf) house.Store
-      → Step told faults (Note event) Closed (seen_of before) (seen_of now) → IsToldOf limits told faults event before now (Err (fault.House house.Store))
+      → Step told faults (Note event) Closed (seen_of before) (seen_of now) → IsToldOf (measured limits told faults) event before now (Err (fault.House house.Store))
   told-shut now halted risen step = record {
     ready = tt;
     noted = tt;
@@ -338,7 +338,7 @@ module _ {D : Type 0} (limits : Limits) (told : D → Option Store) (faults : D 
 
   -- memory lacked, and the house was closed
   told-starved : (mid now : House D) → IsHalted told event house.NoMemory before mid → Step told faults (Note event) Refused (seen_of before) (seen_of mid)
-      → IsStarvedFrom mid now → IsToldOf limits told faults event before now (Err fault.Starved)
+      → IsStarvedFrom mid now → IsToldOf (measured limits told faults) event before now (Err fault.Starved)
   told-starved mid now halted step from = record {
     ready = tt;
     noted = tt;
@@ -361,18 +361,18 @@ module _ {D : Type 0} (limits : Limits) (told : D → Option Store) (faults : D 
 
   told-by : (why : HouseFault) (mid now : House D) → IsHalted told event why before mid → EndsRun why
       → HasRisen (faults before.shelf) (faults mid.shelf) why → Step told faults (Note event) (fault_outcome why) (seen_of before) (seen_of mid)
-      → StopsTelling why mid now → IsToldOf limits told faults event before now (Err (told_fault why))
+      → StopsTelling why mid now → IsToldOf (measured limits told faults) event before now (Err (told_fault why))
   told-by house.NoMemory mid now halted ends risen step stops = told-starved mid now halted step stops
   told-by house.Store mid now halted ends risen step stops =
-      subst (λ (h : House D). IsToldOf limits told faults event before h (Err (fault.House house.Store))) (sym stops) (told-shut mid halted risen step)
+      subst (λ (h : House D). IsToldOf (measured limits told faults) event before h (Err (fault.House house.Store))) (sym stops) (told-shut mid halted risen step)
   told-by (house.Failed count) mid now halted ends risen step stops = absurd ends
 
   -- it wasn't noted
   pub untold : (why : HouseFault) (result : PublishFault) (mid now : House D) → result ≡ told_fault why → IsHalted told event why before mid → EndsRun why
       → HasRisen (faults before.shelf) (faults mid.shelf) why → Step told faults (Note event) (fault_outcome why) (seen_of before) (seen_of mid)
-      → StopsTelling why mid now → IsToldOf limits told faults event before now (Err result)
+      → StopsTelling why mid now → IsToldOf (measured limits told faults) event before now (Err result)
   untold why result mid now is halted ends risen step stops =
-      subst (λ (w : PublishFault). IsToldOf limits told faults event before now (Err w)) (sym is) (told-by why mid now halted ends risen step stops)
+      subst (λ (w : PublishFault). IsToldOf (measured limits told faults) event before now (Err w)) (sym is) (told-by why mid now halted ends risen step stops)
 
 -- ---- the hard count
 

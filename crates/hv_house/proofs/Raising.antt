@@ -28,8 +28,8 @@ use Rattle.hv_house.specs.declared.house.House.{House}
 use Rattle.hv_house.specs.Faults.{HasRisen, HasRisenHard}
 use Rattle.hv_house.specs.House.{entries_of, IsReadyWithin}
 use Rattle.hv_house.specs.Steps.{KeepsMarks, IsOpenedOver}
-use Rattle.hv_house.specs.Ending.{EndsBoot, ends_of, EndsGo, IsGivingNext, EndsStop, IsCutBefore, AllEnd}
-use Rattle.hv_house.specs.Booting.{open_numbers, lost_entry, lost_entries, lost_book, opening_entries, opening_with, boot_fault, look_fault, IsRaiseFault, IsCutShort, CutsOpening, OpeningGoes, StopsEarly, OpeningStops, OpeningStep, IsRaised, HasStopped, IsRaisedOver, CutsBefore, StopsOver}
+use Rattle.hv_house.specs.Ending.{EndsBoot, gauged, ends_of, EndsGo, IsGivingNext, EndsStop, IsCutBefore, AllEnd}
+use Rattle.hv_house.specs.Booting.{open_numbers, lost_entry, lost_entries, lost_book, opening_entries, opening_with, boot_fault, look_fault, IsRaiseFault, IsCutShort, CutsOpening, OpeningGoes, StopsEarly, OpeningStops, OpeningStep, read_to, IsRaised, HasStopped, IsRaisedOver, CutsBefore, StopsOver}
 use Rattle.hv_house.proofs.Boots.{lost-room, settled-ready, over-book}
 use Rattle.hv_house.proofs.EndSteps.{moves-tells, tells-moves, tells-also, ok-also, err-also, marks-then, ends-boot}
 use Rattle.hv_house.proofs.Openings.{lost-fits, lost-book-jobs, opened-fits, ends-are, opening-is}
@@ -163,7 +163,7 @@ module _ {D : Type 0} (told : D → Option Store) (faults hard : D → ℕ) (who
   pub lost-stops : (mid : House D) (why : HouseFault) → Moves KeepsTree (told before.shelf) (told mid.shelf)
       → CutsOpening why (entries_of before) (lost_entries (state_of (entries_of before))) (told mid.shelf) → KeepsMarks before mid
       → faults before.shelf ≤ faults mid.shelf → HasRisen (faults before.shelf) (faults mid.shelf) why → hard before.shelf ≤ hard mid.shelf
-      → HasRisenHard (hard before.shelf) (hard mid.shelf) why → OpeningStep told faults hard whole before mid (Err (boot_fault why))
+      → HasRisenHard (hard before.shelf) (hard mid.shelf) why → OpeningStep (gauged told faults hard) whole before mid (Err (boot_fault why))
   lost-stops mid why same cuts marks later risen hard_later high = record {
     kept = tt;
     entries = tt;
@@ -201,7 +201,7 @@ module _ {D : Type 0} (told : D → Option Store) (faults hard : D → ℕ) (who
     stops-behind s m t kept stop = inr (stop-from whole (lost_book book) s m t kept (subst (λ (b : List Entry). EndsStop whole b m t) is stop))
 
     pub then-ended : KeepsMarks before mid → faults before.shelf ≤ faults mid.shelf → hard before.shelf ≤ hard mid.shelf
-        → AllEnd told faults hard whole mid now result → OpeningStep told faults hard whole before now result
+        → AllEnd (gauged told faults hard) whole mid now result → OpeningStep (gauged told faults hard) whole before now result
     then-ended marks later hard_later all = record {
       kept = all.kept;
       entries =
@@ -241,23 +241,24 @@ module _ {D : Type 0} (told : D → Option Store) (faults hard : D → ℕ) (who
 
 -- by what `?` passes on
 pub opening-raised : {D : Type 0} (told : D → Option Store) (faults hard : D → ℕ) (whole : List ℕ) (before now : House D) (why left : BootFault)
-    (result : Result (Unit {0}) BootFault) → result ≡ Err left → left ≡ why → OpeningStep told faults hard whole before now (Err why)
-    → OpeningStep told faults hard whole before now result
+    (result : Result (Unit {0}) BootFault) → result ≡ Err left → left ≡ why → OpeningStep (gauged told faults hard) whole before now (Err why)
+    → OpeningStep (gauged told faults hard) whole before now result
 opening-raised told faults hard whole before now why left result is same step =
-    subst (OpeningStep told faults hard whole before now) (sym (is ∙ ap (λ (f : BootFault). Err f) same)) step
+    subst (OpeningStep (gauged told faults hard) whole before now) (sym (is ∙ ap (λ (f : BootFault). Err f) same)) step
 
 -- ---- the house
 
 module _ {D : Type 0} (told : D → Option Store) (faults hard : D → ℕ) (book : List Entry) (whole : List ℕ) (first : D) (before noted : House D) where
-  pub opened-raised : (limits : Limits) (start : D) (now : House D) → OpeningStep told faults hard whole before noted (Ok tt) → entries_of before ≡ book
-      → before.shelf ≡ first → before.start.value ≡ start → before.trail.marks ≡ [] → before.limits ≡ limits → limits.entries ≤ 9999999
+  pub opened-raised : (limits : Limits) (start : D) (now : House D) → OpeningStep (gauged told faults hard) whole before noted (Ok tt)
+      → entries_of before ≡ book → before.shelf ≡ first → before.start.value ≡ start → before.trail.marks ≡ [] → before.limits ≡ limits → limits.entries ≤ 9999999
       → AllFit limits nothing_yet book → HasRoom limits (state_of book) 1 → now.shelf ≡ noted.shelf → now.place ≡ noted.place
       → entries_of now ≡ entries_of noted → now.limits ≡ noted.limits → now.trail.closed ≡ noted.trail.closed
       → now.trail.starved ≡ noted.trail.starved → now.start.value ≡ noted.start.value
-      → now.trail.marks ≡ noted.trail.marks → now.trail.opened ≡ length (trail_of noted.trail) → IsRaised told faults hard limits start first book whole now
+      → now.trail.marks ≡ noted.trail.marks → now.trail.opened ≡ length (trail_of noted.trail)
+      → IsRaised (gauged told faults hard) limits start (read_to first book) whole now
   opened-raised limits start now step at from started bare limited most fit room shelf place entries limits_are closed starved start_is marks opened =
       let whole_book : entries_of noted ≡ opening_with whole book = step.entries ∙ ap (opening_with whole) at in
-      subst (λ (d : D). IsRaised told faults hard limits start d book whole now) from (record {
+      subst (λ (d : D). IsRaised (gauged told faults hard) limits start (read_to d book) whole now) from (record {
         ready =
             settled-ready limits told noted now shelf place entries limits_are closed starved (record {
               kept = step.kept;
@@ -276,11 +277,11 @@ module _ {D : Type 0} (told : D → Option Store) (faults hard : D → ℕ) (boo
         hard_later = subst (λ (d : D). hard before.shelf ≤ hard d) (sym shelf) step.cause.hard_later;
       })
 
-  pub opened-stopped : (given : D) (why : BootFault) → OpeningStep told faults hard whole before noted (Err why) → entries_of before ≡ book → before.shelf ≡ first
-      → given ≡ noted.shelf → HasStopped told faults hard first book whole (why, given)
+  pub opened-stopped : (given : D) (why : BootFault) → OpeningStep (gauged told faults hard) whole before noted (Err why)
+      → entries_of before ≡ book → before.shelf ≡ first → given ≡ noted.shelf → HasStopped (gauged told faults hard) first book whole (why, given)
   opened-stopped given why step at from same =
-      subst (λ (d : D). HasStopped told faults hard d book whole (why, given)) from
-      (subst (λ (d : D). HasStopped told faults hard before.shelf book whole (why, d)) (sym same) (record {
+      subst (λ (d : D). HasStopped (gauged told faults hard) d book whole (why, given)) from
+      (subst (λ (d : D). HasStopped (gauged told faults hard) before.shelf book whole (why, d)) (sym same) (record {
         stops = subst (λ (b : List Entry). Moves (OpeningStops whole b) (told before.shelf) (told noted.shelf)) at step.stops;
         ends = step.ends;
         cause = record {
@@ -299,7 +300,8 @@ module _ {D : Type 0} (told : D → Option Store) (faults hard : D → ℕ) (boo
 module _ {D : Type 0} (told : D → Option Store) (faults hard : D → ℕ) (book : List Entry) (first shelf : D) (same : told shelf ≡ told first) where
   pub raised-over : (limits : Limits) (start : D) (whole listed : List ℕ) (now : House D) → listed ≡ whole
       → Tells (told first) (λ s. whole ≡ whole_jobs (state_of book) s.tree) → HasRoom limits (state_of book) 1 → faults first ≤ faults shelf → hard first ≤ hard shelf
-      → IsRaised told faults hard limits start shelf book listed now → IsRaisedOver told faults hard limits start first book now
+      → IsRaised (gauged told faults hard) limits start (read_to shelf book) listed now
+      → IsRaisedOver (gauged told faults hard) limits start (read_to first book) now
   raised-over limits start whole listed now is are room later hard_later raised = record {
     whole = listed;
     whole_are = tells-also (λ s. whole ≡ whole_jobs (state_of book) s.tree) (λ s. listed ≡ whole_jobs (state_of book) s.tree) (λ s w. is ∙ w) (told first) are;
@@ -315,7 +317,8 @@ module _ {D : Type 0} (told : D → Option Store) (faults hard : D → ℕ) (boo
   }
 
   pub stopped-over : (whole listed : List ℕ) (given : BootFault × D) → listed ≡ whole → Tells (told first) (λ s. whole ≡ whole_jobs (state_of book) s.tree)
-      → faults first ≤ faults shelf → hard first ≤ hard shelf → HasStopped told faults hard shelf book listed given → StopsOver told faults hard first book given
+      → faults first ≤ faults shelf → hard first ≤ hard shelf → HasStopped (gauged told faults hard) shelf book listed given
+      → StopsOver (gauged told faults hard) first book given
   stopped-over whole listed given is are later hard_later stopped = record {
     stops =
         Moves-weaken (λ s t. (whole ≡ whole_jobs (state_of book) s.tree) × OpeningStops listed book s t)
@@ -365,7 +368,7 @@ nothing-cuts book (Some s) journal = cut-first (whole_jobs (state_of book) s.tre
 -- the look itself failed
 pub unlooked : {D : Type 0} (told : D → Option Store) (faults hard : D → ℕ) (book : List Entry) (first shelf : D) (why : BootFault) (F : Type 0)
     → (why ≡ fault.Store → F) → told shelf ≡ told first → Tells (told first) (λ s. IsJournal book s.journal)
-    → CallsCause F (faults first) (faults shelf) (hard first) (hard shelf) → StopsOver told faults hard first book (why, shelf)
+    → CallsCause F (faults first) (faults shelf) (hard first) (hard shelf) → StopsOver (gauged told faults hard) first book (why, shelf)
 unlooked told faults hard book first shelf why F fails same journal cause = record {
   stops =
       subst (λ (o : Option Store). Moves (λ s t. OpeningStops (whole_jobs (state_of book) s.tree) book s t) (told first) o) (sym same)
@@ -404,7 +407,7 @@ looked-cause r x faults faults' hard hard' cause =
 
 -- it wasn't opened for another cause than the store
 pub unopened : {D : Type 0} (told : D → Option Store) (faults hard : D → ℕ) (book : List Entry) (shelf : D) (why : BootFault) → (why ≡ fault.Store → ⊥)
-    → Tells (told shelf) (λ s. IsJournal book s.journal) → StopsOver told faults hard shelf book (why, shelf)
+    → Tells (told shelf) (λ s. IsJournal book s.journal) → StopsOver (gauged told faults hard) shelf book (why, shelf)
 unopened told faults hard book shelf why other journal = record {
   stops = nothing-stops book (told shelf) journal;
   cause = record {
@@ -437,27 +440,29 @@ err-both (Err e) P Q R also p q = also e p q
 
 -- of a house that is open
 module _ {D : Type 0} (told : D → Option Store) (faults hard : D → ℕ) (limits : Limits) (start shelf : D) (book : List Entry) where
-  pub all-ready : (r : Result (House D) (BootFault × D)) → IfOk r (IsRaisedOver told faults hard limits start shelf book) → IfOk r (IsReadyWithin limits told)
+  pub all-ready : (r : Result (House D) (BootFault × D)) → IfOk r (IsRaisedOver (gauged told faults hard) limits start (read_to shelf book))
+      → IfOk r (IsReadyWithin limits told)
   all-ready (Ok now) raised = raised.raised.ready
   all-ready (Err x) raised = tt
 
-  pub all-over : (r : Result (House D) (BootFault × D)) → IfOk r (IsRaisedOver told faults hard limits start shelf book) → IfOk r (IsOpenedOver start)
+  pub all-over : (r : Result (House D) (BootFault × D)) → IfOk r (IsRaisedOver (gauged told faults hard) limits start (read_to shelf book))
+      → IfOk r (IsOpenedOver start)
   all-over (Ok now) raised = raised.raised.over
   all-over (Err x) raised = tt
 
-  pub all-later : (r : Result (House D) (BootFault × D)) (first : ℕ) → first ≤ faults shelf → IfOk r (IsRaisedOver told faults hard limits start shelf book)
-      → IfOk r (λ now. first ≤ faults now.shelf)
+  pub all-later : (r : Result (House D) (BootFault × D)) (first : ℕ) → first ≤ faults shelf
+      → IfOk r (IsRaisedOver (gauged told faults hard) limits start (read_to shelf book)) → IfOk r (λ now. first ≤ faults now.shelf)
   all-later (Ok now) first low raised = (let next = raised.raised.later in omega (arith, low, next))
   all-later (Err x) first low raised = tt
 
-  pub all-hard_later : (r : Result (House D) (BootFault × D)) (first : ℕ) → first ≤ hard shelf → IfOk r (IsRaisedOver told faults hard limits start shelf book)
-      → IfOk r (λ now. first ≤ hard now.shelf)
+  pub all-hard_later : (r : Result (House D) (BootFault × D)) (first : ℕ) → first ≤ hard shelf
+      → IfOk r (IsRaisedOver (gauged told faults hard) limits start (read_to shelf book)) → IfOk r (λ now. first ≤ hard now.shelf)
   all-hard_later (Ok now) first low raised = (let next = raised.raised.hard_later in omega (arith, low, next))
   all-hard_later (Err x) first low raised = tt
 
 -- of one that isn't
 pub all-ends : {D : Type 0} (told : D → Option Store) (faults hard : D → ℕ) (shelf : D) (book : List Entry) (whole : List ℕ) (r : Result (House D) (BootFault × D))
-    → IfErr r (HasStopped told faults hard shelf book whole) → IfErr r (λ x. EndsBoot x.0)
+    → IfErr r (HasStopped (gauged told faults hard) shelf book whole) → IfErr r (λ x. EndsBoot x.0)
 all-ends told faults hard shelf book whole (Ok now) stopped = tt
 all-ends told faults hard shelf book whole (Err x) stopped = stopped.ends
 

@@ -20,7 +20,7 @@ use Rattle.hv_house.specs.declared.publishing.PublishFault.TheVariants as publis
 use Rattle.hv_house.specs.Faults.{HasRisen}
 use Rattle.hv_house.specs.House.{entries_of, IsReadyWithin}
 use Rattle.hv_house.specs.Steps.{seen_of, outcome_of, IsMarkedIn, IsMarked, RemoveStepWithin}
-use Rattle.hv_house.specs.Publishing.{IsRoomy, HasRisenPublishing, publish_outcome, PublishStepWithin, HardPublish}
+use Rattle.hv_house.specs.Publishing.{IsRoomy, HasRisenPublishing, publish_outcome, measured, PublishStepWithin, HardPublish}
 use Rattle.hv_house.proofs.Ready.{asked-ready}
 use Rattle.hv_house.proofs.Steps.{same-trail}
 
@@ -122,7 +122,8 @@ remove-behind limits told faults dir before mid now roomy result removed = recor
 
 pub publish-behind : {D : Type 0} (limits : Limits) (told : D → Option Store) (faults : D → ℕ) (renamings : List Renaming) (event : Entry)
     (before mid now : House D) (roomy : IsRoomy before mid) (result : Result (Unit {0}) PublishFault)
-    → PublishStepWithin limits told faults renamings event mid now result → PublishStepWithin limits told faults renamings event before now result
+    → PublishStepWithin (measured limits told faults) renamings event mid now result
+    → PublishStepWithin (measured limits told faults) renamings event before now result
 publish-behind limits told faults renamings event before mid now roomy result published = record {
   ready = published.ready;
   noted = ok-noted told faults before mid now roomy result event published.noted;

@@ -27,7 +27,7 @@ use Rattle.hv_house.specs.declared.house.House.{House}
 use Rattle.hv_house.specs.declared.boot.Left.{Left}
 use Rattle.hv_house.specs.House.{entries_of, IsKept, IsReadyWithin, Leaves}
 use Rattle.hv_house.specs.Steps.{KeepsMarks, IsOpenedOver}
-use Rattle.hv_house.specs.Ending.{OpeningCause, EndsBoot, EndsGo, EndsStop, IsCutBefore}
+use Rattle.hv_house.specs.Ending.{OpeningCause, EndsBoot, Gauge, EndsGo, EndsStop, IsCutBefore}
 
 -- ---- the opening of a book
 
@@ -252,57 +252,66 @@ abbrev pub OpeningStops : List ℕ → List Entry → Store → Store → Type 0
 OpeningStops whole book before now = StopsEarly book before now ⊎ EndsStop whole (lost_book book) before now
 
 -- The opening is noted, of a book that was read.
-pub record OpeningStep {D : Type 0} (told : D → Option Store) (faults hard : D → ℕ) (whole : List ℕ)
-    (before now : House D)
+pub record OpeningStep {D : Type 0} (gauge : Gauge D) (whole : List ℕ) (before now : House D)
     (result : Result (Unit {0}) BootFault) : Type 0 where
-  pub kept : OnOk result (IsKept told now)
+  pub kept : OnOk result (IsKept gauge.told now)
   pub entries : OnOk result (entries_of now ≡ opening_with whole (entries_of before))
-  pub went : OnOk result (Moves (OpeningGoes whole (entries_of before)) (told before.shelf) (told now.shelf))
-  pub stops : OnErr result (Moves (OpeningStops whole (entries_of before)) (told before.shelf) (told now.shelf))
+  pub went : OnOk result (Moves (OpeningGoes whole (entries_of before)) (gauge.told before.shelf)
+      (gauge.told now.shelf))
+  pub stops : OnErr result (Moves (OpeningStops whole (entries_of before)) (gauge.told before.shelf)
+      (gauge.told now.shelf))
   pub ends : IfErr result EndsBoot
   pub marks : KeepsMarks before now
   pub cause : OpeningCause (IsErrOf result fault.Store)
-      (Tells (told now.shelf) (λ t. IsCutBefore (entries_of before)
-      (opening_entries whole (state_of (entries_of before))) t.journal)) (faults before.shelf)
-      (faults now.shelf) (hard before.shelf) (hard now.shelf)
+      (Tells (gauge.told now.shelf) (λ t. IsCutBefore (entries_of before)
+      (opening_entries whole (state_of (entries_of before))) t.journal)) (gauge.faults before.shelf)
+      (gauge.faults now.shelf) (gauge.hard before.shelf) (gauge.hard now.shelf)
+
+-- A store whose journal was read, and the book that it reads to.
+pub record BookRead (D : Type 0) : Type 0 where
+  pub shelf : D
+  pub book : List Entry
+
+abbrev pub read_to : {D : Type 0} → D → List Entry → BookRead D
+read_to shelf book = record { shelf = shelf; book = book }
 
 -- The house is open over this store, in whose book these jobs were whole.
-pub record IsRaised {D : Type 0} (told : D → Option Store) (faults hard : D → ℕ) (limits : Limits) (start shelf : D)
-    (book : List Entry) (whole : List ℕ)
+pub record IsRaised {D : Type 0} (gauge : Gauge D) (limits : Limits) (start : D) (read : BookRead D) (whole : List ℕ)
     (now : House D) : Type 0 where
-  pub ready : IsReadyWithin limits told now
-  pub entries : entries_of now ≡ opening_with whole book
-  pub went : Moves (OpeningGoes whole book) (told shelf) (told now.shelf)
+  pub ready : IsReadyWithin limits gauge.told now
+  pub entries : entries_of now ≡ opening_with whole read.book
+  pub went : Moves (OpeningGoes whole read.book) (gauge.told read.shelf) (gauge.told now.shelf)
   pub over : IsOpenedOver start now
-  pub later : faults shelf ≤ faults now.shelf
-  pub hard_later : hard shelf ≤ hard now.shelf
+  pub later : gauge.faults read.shelf ≤ gauge.faults now.shelf
+  pub hard_later : gauge.hard read.shelf ≤ gauge.hard now.shelf
 
 -- It isn't: the opening stopped.
-pub record HasStopped {D : Type 0} (told : D → Option Store) (faults hard : D → ℕ) (shelf : D) (book : List Entry)
-    (whole : List ℕ) (given : BootFault × D) : Type 0 where
-  pub stops : Moves (OpeningStops whole book) (told shelf) (told given.1)
+pub record HasStopped {D : Type 0} (gauge : Gauge D) (shelf : D) (book : List Entry) (whole : List ℕ)
+    (given : BootFault × D) : Type 0 where
+  pub stops : Moves (OpeningStops whole book) (gauge.told shelf) (gauge.told given.1)
   pub ends : EndsBoot given.0
-  pub cause : OpeningCause (given.0 ≡ fault.Store) (Tells (told given.1)
-      (λ t. IsCutBefore book (opening_entries whole (state_of book)) t.journal)) (faults shelf)
-      (faults given.1) (hard shelf) (hard given.1)
+  pub cause : OpeningCause (given.0 ≡ fault.Store) (Tells (gauge.told given.1)
+      (λ t. IsCutBefore book (opening_entries whole (state_of book)) t.journal)) (gauge.faults shelf)
+      (gauge.faults given.1) (gauge.hard shelf) (gauge.hard given.1)
 
 -- by the jobs that its files show whole
-pub record IsRaisedOver {D : Type 0} (told : D → Option Store) (faults hard : D → ℕ) (limits : Limits) (start shelf : D)
-    (book : List Entry) (now : House D) : Type 0 where
+pub record IsRaisedOver {D : Type 0} (gauge : Gauge D) (limits : Limits) (start : D) (read : BookRead D)
+    (now : House D) : Type 0 where
   pub whole : List ℕ
-  pub whole_are : Tells (told shelf) (λ s. whole ≡ whole_jobs (state_of book) s.tree)
-  pub room : HasRoom limits (state_of book) 1
-  pub raised : IsRaised told faults hard limits start shelf book whole now
+  pub whole_are : Tells (gauge.told read.shelf) (λ s. whole ≡ whole_jobs (state_of read.book) s.tree)
+  pub room : HasRoom limits (state_of read.book) 1
+  pub raised : IsRaised gauge limits start read whole now
 
 abbrev pub CutsBefore : List Entry → Option Store → Option Store → Type 0
 CutsBefore book before now = Moves (λ s t. IsCutBefore book
     (opening_entries (whole_jobs (state_of book) s.tree) (state_of book)) t.journal) before now
 
-pub record StopsOver {D : Type 0} (told : D → Option Store) (faults hard : D → ℕ) (shelf : D) (book : List Entry)
+pub record StopsOver {D : Type 0} (gauge : Gauge D) (shelf : D) (book : List Entry)
     (given : BootFault × D) : Type 0 where
-  pub stops : Moves (λ s t. OpeningStops (whole_jobs (state_of book) s.tree) book s t) (told shelf) (told given.1)
-  pub cause : OpeningCause (given.0 ≡ fault.Store) (CutsBefore book (told shelf) (told given.1)) (faults shelf)
-      (faults given.1) (hard shelf) (hard given.1)
+  pub stops : Moves (λ s t. OpeningStops (whole_jobs (state_of book) s.tree) book s t) (gauge.told shelf)
+      (gauge.told given.1)
+  pub cause : OpeningCause (given.0 ≡ fault.Store) (CutsBefore book (gauge.told shelf) (gauge.told given.1))
+      (gauge.faults shelf) (gauge.faults given.1) (gauge.hard shelf) (gauge.hard given.1)
 
 -- ---- the hard count of an opening
 

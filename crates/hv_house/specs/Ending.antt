@@ -90,20 +90,38 @@ EndsBoot _ = ⊥
 abbrev pub IsOne : List Entry → Type 0
 IsOne events = (event : Entry) × (events ≡ event ∷ [])
 
+-- What is read of a store: what it tells, its count of faults, and that of the hard ones.
+pub record Gauge (D : Type 0) : Type 0 where
+  pub told : D → Option Store
+  pub faults : D → ℕ
+  pub hard : D → ℕ
+
+abbrev pub gauged : {D : Type 0} → (D → Option Store) → (D → ℕ) → (D → ℕ) → Gauge D
+gauged told faults hard = record { told = told; faults = faults; hard = hard }
+
+-- How a step ends jobs: how files have gone where it stops before its entries are noted, how they go, and these entries.
+pub record EndWay : Type 1 where
+  pub begins : Tree → Tree → Type 0
+  pub goes : Tree → Tree → Type 0
+  pub more : List Entry
+
+abbrev pub ends_by : (Tree → Tree → Type 0) → (Tree → Tree → Type 0) → List Entry → EndWay
+ends_by begins goes more = record { begins = begins; goes = goes; more = more }
+
 -- A step that notes these entries, when files have gone so. It fails only where there is one to note, and then for a call on files only before that.
-pub record EndStep {D : Type 0} (told : D → Option Store) (faults hard : D → ℕ) (begins goes : Tree → Tree → Type 0)
-    (more : List Entry) (before now : House D)
+pub record EndStep {D : Type 0} (gauge : Gauge D) (way : EndWay) (before now : House D)
     (result : Result (Unit {0}) BootFault) : Type 0 where
-  pub kept : OnOk result (IsKept told now)
-  pub entries : OnOk result (entries_of now ≡ entries_of before ++ more)
-  pub went : OnOk result (Moves (λ s t. goes s.tree t.tree) (told before.shelf) (told now.shelf))
-  pub stops : OnErr result (Moves (StopsAt begins goes (entries_of before) more) (told before.shelf) (told now.shelf))
-  pub one : OnErr result (IsOne more)
+  pub kept : OnOk result (IsKept gauge.told now)
+  pub entries : OnOk result (entries_of now ≡ entries_of before ++ way.more)
+  pub went : OnOk result (Moves (λ s t. way.goes s.tree t.tree) (gauge.told before.shelf) (gauge.told now.shelf))
+  pub stops : OnErr result (Moves (StopsAt way.begins way.goes (entries_of before) way.more) (gauge.told before.shelf)
+      (gauge.told now.shelf))
+  pub one : OnErr result (IsOne way.more)
   pub ends : IfErr result EndsBoot
   pub marks : KeepsMarks before now
   pub cause : OpeningCause (IsErrOf result fault.Store)
-      (Tells (told now.shelf) (λ t. IsJournal (entries_of before) t.journal)) (faults before.shelf)
-      (faults now.shelf) (hard before.shelf) (hard now.shelf)
+      (Tells (gauge.told now.shelf) (λ t. IsJournal (entries_of before) t.journal)) (gauge.faults before.shelf)
+      (gauge.faults now.shelf) (gauge.hard before.shelf) (gauge.hard now.shelf)
 
 -- ---- all jobs
 
@@ -143,14 +161,14 @@ pub record IsCutBefore (book opening : List Entry) (bytes : List ℕ) : Type 0 w
   pub parts : opening ≡ front ++ next ∷ more
   pub journal : IsJournal (book ++ front) bytes
 
-pub record AllEnd {D : Type 0} (told : D → Option Store) (faults hard : D → ℕ) (whole : List ℕ) (before now : House D)
+pub record AllEnd {D : Type 0} (gauge : Gauge D) (whole : List ℕ) (before now : House D)
     (result : Result (Unit {0}) BootFault) : Type 0 where
-  pub kept : OnOk result (IsKept told now)
+  pub kept : OnOk result (IsKept gauge.told now)
   pub entries : OnOk result (entries_of now ≡ entries_of before ++ ends_of whole (entries_of before))
-  pub went : OnOk result (Moves (EndsGo whole (entries_of before)) (told before.shelf) (told now.shelf))
-  pub stops : OnErr result (Moves (EndsStop whole (entries_of before)) (told before.shelf) (told now.shelf))
+  pub went : OnOk result (Moves (EndsGo whole (entries_of before)) (gauge.told before.shelf) (gauge.told now.shelf))
+  pub stops : OnErr result (Moves (EndsStop whole (entries_of before)) (gauge.told before.shelf) (gauge.told now.shelf))
   pub ends : IfErr result EndsBoot
   pub marks : KeepsMarks before now
-  pub cause : OpeningCause (IsErrOf result fault.Store)
-      (Tells (told now.shelf) (λ t. IsCutBefore (entries_of before) (ends_of whole (entries_of before)) t.journal))
-      (faults before.shelf) (faults now.shelf) (hard before.shelf) (hard now.shelf)
+  pub cause : OpeningCause (IsErrOf result fault.Store) (Tells (gauge.told now.shelf)
+      (λ t. IsCutBefore (entries_of before) (ends_of whole (entries_of before)) t.journal))
+      (gauge.faults before.shelf) (gauge.faults now.shelf) (gauge.hard before.shelf) (gauge.hard now.shelf)

@@ -135,15 +135,24 @@ TellsBy told faults event before now (Err (fault.House house.Store)) =
     Step told faults (Note event) Closed (seen_of before) (seen_of now)
 TellsBy told faults event before now (Err (fault.House why)) = ⊥
 
+-- By what a publication is measured: the limits, what the store tells, and its count of faults.
+pub record Measure (D : Type 0) : Type 0 where
+  pub limits : Limits
+  pub told : D → Option Store
+  pub faults : D → ℕ
+
+abbrev pub measured : {D : Type 0} → Limits → (D → Option Store) → (D → ℕ) → Measure D
+measured limits told faults = record { limits = limits; told = told; faults = faults }
+
 -- the entry was noted, or the house is closed
-pub record IsToldOf {D : Type 0} (limits : Limits) (told : D → Option Store) (faults : D → ℕ) (event : Entry)
-    (before now : House D) (result : Result (Unit {0}) PublishFault) : Type 0 where
-  pub ready : IfOk result (λ _. IsReadyWithin limits told now)
+pub record IsToldOf {D : Type 0} (measure : Measure D) (event : Entry) (before now : House D)
+    (result : Result (Unit {0}) PublishFault) : Type 0 where
+  pub ready : IfOk result (λ _. IsReadyWithin measure.limits measure.told now)
   pub noted : IfOk result (λ _. entries_of now ≡ entries_of before ++ event ∷ [])
   pub unnoted : IfErr result (λ _. entries_of now ≡ entries_of before)
-  pub tells : TellsBy told faults event before now result
-  pub later : faults before.shelf ≤ faults now.shelf
-  pub failed : IfErr result (HasRisenPublishing (faults before.shelf) (faults now.shelf))
+  pub tells : TellsBy measure.told measure.faults event before now result
+  pub later : measure.faults before.shelf ≤ measure.faults now.shelf
+  pub failed : IfErr result (HasRisenPublishing (measure.faults before.shelf) (measure.faults now.shelf))
 
 -- ---- the call
 
@@ -166,16 +175,17 @@ EndsPublishing (fault.House (house.Failed count)) = ⊥
 EndsPublishing why = Unit {0}
 
 -- all that is promised of a publication
-pub record PublishStepWithin {D : Type 0} (limits : Limits) (told : D → Option Store) (faults : D → ℕ)
-    (renamings : List Renaming) (event : Entry) (before now : House D) (result : Result (Unit {0}) PublishFault) : Type 0 where
-  pub ready : IfOk result (λ _. IsReadyWithin limits told now)
+pub record PublishStepWithin {D : Type 0} (measure : Measure D) (renamings : List Renaming) (event : Entry)
+    (before now : House D) (result : Result (Unit {0}) PublishFault) : Type 0 where
+  pub ready : IfOk result (λ _. IsReadyWithin measure.limits measure.told now)
   pub noted : IfOk result (λ _. entries_of now ≡ entries_of before ++ event ∷ [])
   pub unnoted : IfErr result (λ _. entries_of now ≡ entries_of before)
-  pub stays : IfErr result (λ why. StaysPublishedWithin limits told why now)
+  pub stays : IfErr result (λ why. StaysPublishedWithin measure.limits measure.told why now)
   pub ends : IfErr result EndsPublishing
-  pub step : Step told faults (Publish renamings event) (publish_outcome result) (seen_of before) (seen_of now)
-  pub later : faults before.shelf ≤ faults now.shelf
-  pub failed : IfErr result (HasRisenPublishing (faults before.shelf) (faults now.shelf))
+  pub step : Step measure.told measure.faults (Publish renamings event) (publish_outcome result) (seen_of before)
+      (seen_of now)
+  pub later : measure.faults before.shelf ≤ measure.faults now.shelf
+  pub failed : IfErr result (HasRisenPublishing (measure.faults before.shelf) (measure.faults now.shelf))
 
 -- a house that was open is shut by a publication, but for want of memory, only where the hard count rose
 abbrev pub HardPublish : {D : Type 0} → (D → ℕ) → House D → House D → Type 0

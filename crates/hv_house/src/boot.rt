@@ -11,8 +11,8 @@ ghost use Rattle.hv_finals.specs.Finals.{CanName, CallsCause};
 ghost use Rattle.hv_house.specs.Faults.{StoreCause, FileCause, JournalCause};
 ghost use Rattle.hv_house.specs.House.{entries_of, book_limit, IsKept, IsReadyWithin, IsBeside};
 ghost use Rattle.hv_house.specs.Steps.{KeepsMarks, IsOpenedOver};
-ghost use Rattle.hv_house.specs.Ending.{EndsBoot};
-ghost use Rattle.hv_house.specs.Booting.{boot_fault, open_fault, look_fault, open_numbers, lost_entry, IsLearned, LosesSome, CutsOpening, IsRaiseFault, Opens, IsBootFault, IsBootStore, StopsOpening, StopsOpen, OpensWhole, KeepsIdle, NotesWithRoom, StopsWithRoom, OpeningStep, IsRaised, HasStopped, IsRaisedOver, StopsOver, OpeningHard};
+ghost use Rattle.hv_house.specs.Ending.{EndsBoot, gauged};
+ghost use Rattle.hv_house.specs.Booting.{boot_fault, open_fault, look_fault, open_numbers, lost_entry, IsLearned, LosesSome, CutsOpening, IsRaiseFault, Opens, IsBootFault, IsBootStore, StopsOpening, StopsOpen, OpensWhole, KeepsIdle, NotesWithRoom, StopsWithRoom, OpeningStep, read_to, IsRaised, HasStopped, IsRaisedOver, StopsOver, OpeningHard};
 
 use crate::buffer::RecordBuffer;
 use crate::fault::HouseFault;
@@ -202,7 +202,7 @@ impl<D: Shelf + Drop> House<D> {
         requires within { self.old.limits.entries ≤ book_limit }
         requires runs { runs ≡ (state_of (entries_of self.old)).openings.count }
         requires open_are { unended.now ≡ open_numbers (state_of (entries_of self.old)) }
-        ensures step { OpeningStep D.told D.faults D.hard whole.now self.old self.new result }
+        ensures step { OpeningStep (gauged D.told D.faults D.hard) whole.now self.old self.new result }
     {
         self.note_lost(runs, unended)?;
         self.end_jobs(alloc, whole)
@@ -243,8 +243,10 @@ impl<D: Shelf + Drop> House<D> {
         requires room { HasRoom limits (state_of book.entries) 1 }
         requires learned { IsLearned book.entries found }
         requires places { open_count book.entries ≤ book.spare }
-        ensures raised { IfOk result (IsRaised D.told D.faults D.hard limits start.value shelf book.entries whole.now) }
-        ensures stopped { IfErr result (λ x. HasStopped D.told D.faults D.hard shelf book.entries whole.now x) }
+        ensures raised { IfOk result (IsRaised (gauged D.told D.faults D.hard) limits start.value
+            (read_to shelf book.entries) whole.now) }
+        ensures stopped { IfErr result (λ x. HasStopped (gauged D.told D.faults D.hard) shelf book.entries
+            whole.now x) }
     {
         let Left {
             runs,
@@ -286,9 +288,10 @@ impl<D: Shelf + Drop> House<D> {
         requires room { HasRoom limits (state_of book.entries) 1 }
         requires learned { IsLearned book.entries found }
         requires places { open_count book.entries ≤ book.spare }
-        ensures raised { IfOk result (IsRaisedOver D.told D.faults D.hard limits start.value shelf book.entries) }
+        ensures raised { IfOk result (IsRaisedOver (gauged D.told D.faults D.hard) limits start.value
+            (read_to shelf book.entries)) }
         ensures ends { IfErr result (λ x. EndsBoot x.0) }
-        ensures stopped { IfErr result (StopsOver D.told D.faults D.hard shelf book.entries) }
+        ensures stopped { IfErr result (StopsOver (gauged D.told D.faults D.hard) shelf book.entries) }
     {
         let mut shelf = shelf;
         match House::look(alloc, &mut shelf, &book) {
@@ -312,9 +315,10 @@ impl<D: Shelf + Drop> House<D> {
         requires place { place ≡ place_of book.entries }
         requires journal { Tells (D.told shelf) (λ s. IsJournal book.entries s.journal) }
         requires room { HasRoom limits (state_of book.entries) 1 }
-        ensures raised { IfOk result (IsRaisedOver D.told D.faults D.hard limits start.value shelf book.entries) }
+        ensures raised { IfOk result (IsRaisedOver (gauged D.told D.faults D.hard) limits start.value
+            (read_to shelf book.entries)) }
         ensures ends { IfErr result (λ x. EndsBoot x.0) }
-        ensures stopped { IfErr result (StopsOver D.told D.faults D.hard shelf book.entries) }
+        ensures stopped { IfErr result (StopsOver (gauged D.told D.faults D.hard) shelf book.entries) }
     {
         let mut book = book;
         match learn(alloc, &mut book) {
@@ -336,12 +340,13 @@ impl<D: Shelf + Drop> House<D> {
         requires fit { AllFit limits nothing_yet book.entries }
         requires place { place ≡ place_of book.entries }
         requires journal { Tells (D.told shelf) (λ s. IsJournal book.entries s.journal) }
-        ensures raised { IfOk result (IsRaisedOver D.told D.faults D.hard limits start.value shelf book.entries) }
+        ensures raised { IfOk result (IsRaisedOver (gauged D.told D.faults D.hard) limits start.value
+            (read_to shelf book.entries)) }
         ensures over { IfOk result (IsOpenedOver start.value) }
         ensures room { IfErr result (λ x. HasRoom limits (state_of book.entries) 1 ⊎ (D.told x.1 ≡ D.told shelf)) }
         ensures full { IfErr result (λ x.
             IsRaiseFault limits book.entries (D.told shelf) (D.told x.1) x.0) }
-        ensures stopped { IfErr result (StopsOver D.told D.faults D.hard shelf book.entries) }
+        ensures stopped { IfErr result (StopsOver (gauged D.told D.faults D.hard) shelf book.entries) }
         ensures roomy { IfErr result (λ x. Tells (D.told x.1)
             (λ s. NotesWithRoom limits book.entries s.journal)) }
     {

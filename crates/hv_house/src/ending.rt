@@ -8,7 +8,7 @@ ghost use Rattle.hv_finals.specs.declared.ending.JobEnd.TheVariants as its_end;
 ghost use Rattle.hv_finals.specs.Finals.{CanName, works_at, entry_of, end_entries, is_publication, CallsCause, DirsGo, SomeDirsGo};
 ghost use Rattle.hv_house.specs.House.{entries_of, entry_limit, book_limit, IsKept, IsBeside};
 ghost use Rattle.hv_house.specs.Steps.{KeepsMarks};
-ghost use Rattle.hv_house.specs.Ending.{IsSame, JobDirsGo, SomeJobDirsGo, JobGoes, SomeJobGoes, GoesAs, BeginsAs, EndGoes, EndBegins, EndsBoot, EndStep, AllEnd};
+ghost use Rattle.hv_house.specs.Ending.{IsSame, JobDirsGo, SomeJobDirsGo, JobGoes, SomeJobGoes, GoesAs, BeginsAs, EndGoes, EndBegins, EndsBoot, gauged, ends_by, EndStep, AllEnd};
 
 use crate::boot::BootFault;
 use crate::house::House;
@@ -90,7 +90,8 @@ impl<D: Shelf + Drop> House<D> {
         requires bare { tree_of_entry entry ≡ None }
         requires short { length (entry_spelling entry) ≤ entry_limit }
         requires room { length (entries_of self.old) < book_limit }
-        ensures step { EndStep D.told D.faults D.hard IsSame IsSame (entry ∷ []) self.old self.new result }
+        ensures step { EndStep (gauged D.told D.faults D.hard) (ends_by IsSame IsSame (entry ∷ []))
+            self.old self.new result }
     {
         self.add(entry, None)?;
         Ok(())
@@ -102,9 +103,9 @@ impl<D: Shelf + Drop> House<D> {
         requires named { CanName (entries_of self.old) }
         requires works { works_at (numbered (state_of (entries_of self.old)).jobs number) ≡ true }
         requires room { length (entries_of self.old) < book_limit }
-        ensures step { EndStep D.told D.faults D.hard (SomeJobGoes (entries_of self.old) number)
-            (JobGoes (entries_of self.old) number)
-            (entry_of number (its_end.Failed gone) ∷ []) self.old self.new result }
+        ensures step { EndStep (gauged D.told D.faults D.hard)
+            (ends_by (SomeJobGoes (entries_of self.old) number) (JobGoes (entries_of self.old) number)
+            (entry_of number (its_end.Failed gone) ∷ [])) self.old self.new result }
     {
         self.clear_job(alloc, number)?;
         self.note_end(failed_entry(number, gone))
@@ -116,8 +117,9 @@ impl<D: Shelf + Drop> House<D> {
         requires named { CanName (entries_of self.old) }
         requires works { works_at (numbered (state_of (entries_of self.old)).jobs number) ≡ true }
         requires room { length (entries_of self.old) < book_limit }
-        ensures step { EndStep D.told D.faults D.hard (BeginsAs (entries_of self.old) number (is_publication end))
-            (GoesAs (entries_of self.old) number (is_publication end)) (entry_of number end ∷ [])
+        ensures step { EndStep (gauged D.told D.faults D.hard)
+            (ends_by (BeginsAs (entries_of self.old) number (is_publication end))
+            (GoesAs (entries_of self.old) number (is_publication end)) (entry_of number end ∷ []))
             self.old self.new result }
     {
         match end {
@@ -133,13 +135,13 @@ impl<D: Shelf + Drop> House<D> {
         requires room { length (entries_of self.old)
             + length (end_entries whole.now (state_of (entries_of self.old)) number
             (numbered (state_of (entries_of self.old)).jobs number)) ≤ book_limit }
-        ensures step { EndStep D.told D.faults D.hard
-            (EndBegins whole.now (state_of (entries_of self.old)) number
+        ensures step { EndStep (gauged D.told D.faults D.hard)
+            (ends_by (EndBegins whole.now (state_of (entries_of self.old)) number
             (numbered (state_of (entries_of self.old)).jobs number))
             (EndGoes whole.now (state_of (entries_of self.old)) number
             (numbered (state_of (entries_of self.old)).jobs number))
             (end_entries whole.now (state_of (entries_of self.old)) number
-            (numbered (state_of (entries_of self.old)).jobs number))
+            (numbered (state_of (entries_of self.old)).jobs number)))
             self.old self.new result }
     {
         match end_of(self.trail.book(), whole, JobId(number)) {
@@ -162,7 +164,7 @@ impl<D: Shelf + Drop> House<D> {
         requires fit { AllFit self.old.limits nothing_yet (entries_of self.old) }
         requires room { length (entries_of self.old)
             + sum_by working_one (state_of (entries_of self.old)).jobs ≤ book_limit }
-        ensures step { AllEnd D.told D.faults D.hard whole.now self.old self.new result }
+        ensures step { AllEnd (gauged D.told D.faults D.hard) whole.now self.old self.new result }
     {
         for i in 0..self.job_count() {
             self.end_job(alloc, whole, i as u64 + 1)?;

@@ -6,7 +6,7 @@ ghost use Rattle.hv_history.specs.State.{state_of};
 ghost use Rattle.hv_history.specs.Legal.{Fits};
 ghost use Rattle.hv_house.specs.House.{entries_of, IsSmall, IsReadyWithin};
 ghost use Rattle.hv_house.specs.Steps.{IsMarked};
-ghost use Rattle.hv_house.specs.Publishing.{PublishStepWithin, HardPublish, IsRoomy, IsToldOf, stop_of, StopsRenaming, told_fault, StopsTelling};
+ghost use Rattle.hv_house.specs.Publishing.{measured, PublishStepWithin, HardPublish, IsRoomy, IsToldOf, stop_of, StopsRenaming, told_fault, StopsTelling};
 
 use crate::fault::HouseFault;
 use crate::house::{House, discard};
@@ -83,7 +83,7 @@ impl<D: Shelf> House<D> {
         requires small { IsSmall entry }
         requires fits { Fits limits (state_of (entries_of self.old)) entry }
         requires marked { IsMarked self.old entry }
-        ensures told { IsToldOf limits D.told D.faults entry self.old self.new result }
+        ensures told { IsToldOf (measured limits D.told D.faults) entry self.old self.new result }
         ensures hard { HardPublish D.hard self.old self.new }
     {
         match self.note(entry, None) {
@@ -100,7 +100,8 @@ impl<D: Shelf> House<D> {
         requires small { IsSmall entry }
         requires fits { Fits limits (state_of (entries_of self.old)) entry }
         requires marked { IsMarked self.old entry }
-        ensures published { PublishStepWithin limits D.told D.faults renamings.now entry self.old self.new result }
+        ensures published { PublishStepWithin (measured limits D.told D.faults) renamings.now entry
+            self.old self.new result }
         ensures hard { HardPublish D.hard self.old self.new }
     {
         match rename_all(&mut self.shelf, renamings) {
@@ -124,7 +125,8 @@ impl<D: Shelf> House<D> {
         requires small { IsSmall entry }
         requires fits { Fits limits (state_of (entries_of self.old)) entry }
         requires marked { IsMarked self.old entry }
-        ensures published { PublishStepWithin limits D.told D.faults renamings.now entry self.old self.new result }
+        ensures published { PublishStepWithin (measured limits D.told D.faults) renamings.now entry
+            self.old self.new result }
         ensures hard { HardPublish D.hard self.old self.new }
     {
         match self.make_room(&entry) {

@@ -22,7 +22,7 @@ use Rattle.hv_telling.specs.hv_house.specs.declared.house.House.{House}
 use Rattle.hv_telling.specs.hv_house.specs.declared.publishing.PublishFault.{PublishFault}
 use Rattle.hv_telling.specs.hv_house.specs.declared.publishing.PublishFault.TheVariants as publish
 use Rattle.hv_telling.specs.hv_house.specs.House.{entries_of}
-use Rattle.hv_telling.specs.hv_house.specs.Publishing.{PublishStepWithin}
+use Rattle.hv_telling.specs.hv_house.specs.Publishing.{measured, PublishStepWithin}
 use Rattle.hv_telling.specs.hv_house.specs.Steps.{seen_of}
 use Rattle.hv_telling.specs.Telling.{IsToldHouse, IsWhole, StaysPublished, StillOpens, IsPublication}
 use Rattle.hv_telling.proofs.Told.{whole-shown}
@@ -115,7 +115,7 @@ module _ {D : Type 0} (told : D → Option Store) (faults : D → ℕ) (renaming
   call-is = λ i. Publish (same_rs i) (same_e i)
 
   pub published-ok : {T : Type 0} (x : T) → IsWhole told now → now.start ≡ before.start
-      → PublishStepWithin profile told faults renamings event before now (Ok tt) → JobStep told faults (Publish rs e) before now (Ok x)
+      → PublishStepWithin (measured profile told faults) renamings event before now (Ok tt) → JobStep told faults (Publish rs e) before now (Ok x)
   published-ok x whole start step = record {
     whole = whole;
     stays = tt;
@@ -127,7 +127,7 @@ module _ {D : Type 0} (told : D → Option Store) (faults : D → ℕ) (renaming
     failed = tt;
   }
 
-  stays-by : (why : PublishFault) → StaysPublished told why now → PublishStepWithin profile told faults renamings event before now (Err why)
+  stays-by : (why : PublishFault) → StaysPublished told why now → PublishStepWithin (measured profile told faults) renamings event before now (Err why)
       → StaysFor told (fault_of why) now
   stays-by publish.Starved stays step = tt
   stays-by (publish.House house.Store) stays step = tt
@@ -135,7 +135,7 @@ module _ {D : Type 0} (told : D → Option Store) (faults : D → ℕ) (renaming
   stays-by (publish.House (house.Failed count)) stays step = absurd step.ends
 
   err-by : {T : Type 0} (why : PublishFault) → StaysPublished told why now → (IsToldHouse told before → StillOpens told now) → now.start ≡ before.start
-      → PublishStepWithin profile told faults renamings event before now (Err why)
+      → PublishStepWithin (measured profile told faults) renamings event before now (Err why)
       → JobStep {T = T} told faults (call_behind (Publish renamings event) (fault_of why)) before now (Err (fault_of why))
   err-by publish.Starved stays opens start step = record {
     whole = tt;
@@ -160,7 +160,7 @@ module _ {D : Type 0} (told : D → Option Store) (faults : D → ℕ) (renaming
 
   pub published-err : {T : Type 0} (why : PublishFault) (x : JobFault) → x ≡ fault_of why → StaysPublished told why now
       → (IsToldHouse told before → StillOpens told now) → now.start ≡ before.start
-      → PublishStepWithin profile told faults renamings event before now (Err why)
+      → PublishStepWithin (measured profile told faults) renamings event before now (Err why)
       → JobStep {T = T} told faults (call_behind (Publish rs e) x) before now (Err x)
   published-err {T = T} why x is stays opens start step =
       subst (λ (w : JobFault). JobStep {T = T} told faults (call_behind (Publish rs e) w) before now (Err w)) (sym is)

@@ -51,7 +51,8 @@ WithinLost mark given lost = All (λ (exception : Exception). exception.write.0 
 
 -- what is kept is of a job of the book that is at work
 abbrev pub IsNotedIn : State → JobNote → Type 0
-IsNotedIn state note = (number : ℕ) × (j : Job) × (numbered state.jobs number ≡ Some j) × (is_working j ≡ true) × (note ≡ brief_job j)
+IsNotedIn state note =
+    (number : ℕ) × (j : Job) × (numbered state.jobs number ≡ Some j) × (is_working j ≡ true) × (note ≡ brief_job j)
 
 -- by what is kept of the job
 abbrev pub IsListOf : List Entry → JobNote → WriteIds → Type 0
@@ -60,7 +61,8 @@ IsListOf book note list = list ≡ list_up_to (mark_by note.watermark) (list_at 
 abbrev pub IsListingBy : List Entry → JobNote → List Place → Option (List ℕ) → Listing → Type 0
 IsListingBy book note places None listing = ⊥
 IsListingBy book note places (Some partition) listing =
-    IsListOf book note listing.list × AreTakenOf (filter (is_part partition) places) listing.list listing.inserts.items listing.deletes.items
+    IsListOf book note listing.list
+    × AreTakenOf (filter (is_part partition) places) listing.list listing.inserts.items listing.deletes.items
 
 -- its Asked stands, so that there is one
 abbrev pub IsListingOf : List Entry → JobNote → List Place → Option Listing → Type 0
@@ -74,4 +76,5 @@ list_read (Err why) = Err (fault.House house.NoMemory)
 -- the files of its partition that are taken under a list
 abbrev pub AreTakenFor : Job → Listing → Tree → Type 0
 AreTakenFor job listing files =
-    AreTakenOf (filter (is_part job.partition) (places_of (record { 0 = job.table }) files)) listing.list listing.inserts.items listing.deletes.items
+    AreTakenOf (filter (is_part job.partition) (places_of (record { 0 = job.table }) files)) listing.list
+    listing.inserts.items listing.deletes.items

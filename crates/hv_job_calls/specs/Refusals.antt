@@ -45,7 +45,8 @@ WorksAt state job = OfJob state job (λ (j : Job). IsTrue (is_working j))
 
 -- the job that is asked for next
 abbrev pub asking : List Entry → TableId → List ℕ → JobKind → ℕ → Entry
-asking book table partition kind by = entry.Asked (record { 0 = length (state_of book).jobs + 1 }) table partition kind by
+asking book table partition kind by =
+    entry.Asked (record { 0 = length (state_of book).jobs + 1 }) table partition kind by
 
 -- the job that is picked next, where there is one
 abbrev pub to_pick : State → Option ℕ
@@ -69,7 +70,8 @@ picking book =
 abbrev pub published_by : State → JobId → Option Job → Entry
 published_by state job None = entry.Empty job
 published_by state job (Some j) =
-    entry.Published job (record { 0 = (pieces_for state j).low }) (record { 0 = (pieces_for state j).high }) (record { 0 = length state.transactions + 1 })
+    entry.Published job (record { 0 = (pieces_for state j).low }) (record { 0 = (pieces_for state j).high })
+    (record { 0 = length state.transactions + 1 })
 
 abbrev pub publishing_of : List Entry → JobId → Entry
 publishing_of book job = published_by (state_of book) job (numbered (state_of book).jobs job.0)
@@ -94,7 +96,8 @@ holder_by state (Some range) = holder state range.2
 
 -- this open transaction is the lowest below its mark
 abbrev pub IsHeldBy : State → ℕ → ℕ → Type 0
-IsHeldBy state job txn = OfJob state job (λ (j : Job). (is_live_job state j ≡ true) × (holder_by state j.published ≡ Some txn))
+IsHeldBy state job txn =
+    OfJob state job (λ (j : Job). (is_live_job state j ≡ true) × (holder_by state j.published ≡ Some txn))
 
 -- the directory is one that the job covers, in its partition
 pub record IsCoveredDir (dir : DirAt) (job : Job) : Type 0 where
@@ -118,7 +121,8 @@ abbrev pub IsLostIn : State → ℕ → ℕ → Type 0
 IsLostIn state table write = IsSomeAnd (numbered state.tables table) (IsLostId state write)
 
 abbrev pub CanForget : State → ℕ → ℕ → Type 0
-CanForget state table write = IsSomeAnd (numbered state.tables table) (λ (t : Table). IsLostId state write t × IsKeptId write t)
+CanForget state table write =
+    IsSomeAnd (numbered state.tables table) (λ (t : Table). IsLostId state write t × IsKeptId write t)
 
 -- the text is that of an own directory of the id
 pub record IsOwnText (write : ℕ) (text : List ℕ) : Type 0 where
@@ -146,7 +150,8 @@ pub record IsStagedText (number : ℕ) (text : List ℕ) : Type 0 where
 
 -- the directory is a staged one, or its table was dropped
 abbrev pub CanSweep : State → DirAt → Type 0
-CanSweep state dir = ((number : ℕ) × IsStagedText number dir.dir) ⊎ IsSomeAnd (numbered state.tables dir.table.0) (λ (t : Table). t.is_live ≡ false)
+CanSweep state dir = ((number : ℕ) × IsStagedText number dir.dir)
+    ⊎ IsSomeAnd (numbered state.tables dir.table.0) (λ (t : Table). t.is_live ≡ false)
 
 -- the job that stages there is at work, and its table is live
 pub record IsWorkingStage (state : State) (dir : DirAt) (number : ℕ) : Type 0 where

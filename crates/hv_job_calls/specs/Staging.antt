@@ -34,7 +34,12 @@ IsStageable number name = IsName name × IsName (Staged (record { 0 = number }) 
 abbrev pub place_by : ℕ → JobNote → DirName → ℕ → Option (List ℕ) → Option Place
 place_by number note name bucket None = None
 place_by number note name bucket (Some partition) =
-    Some (record { table = record { 0 = note.table }; partition = partition; dir = staged_text number name; bucket = bucket })
+    Some (record {
+      table = record { 0 = note.table };
+      partition = partition;
+      dir = staged_text number name;
+      bucket = bucket;
+    })
 
 abbrev pub PlacesFor : List Entry → ℕ → JobNote → DirName → ℕ → Option Place → Type 0
 PlacesFor entries number note name bucket place = place ≡ place_by number note name bucket (asked_at entries note.asked)

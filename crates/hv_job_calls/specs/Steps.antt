@@ -66,7 +66,8 @@ HasRisenFor faults faults' (fault.House why) = HasRisen faults faults' why
 HasRisenFor faults faults' why = Unit {0}
 
 -- all that is promised of every call for a job
-pub record JobStep {D T : Type 0} (told : D → Option Store) (faults : D → ℕ) (call : Call) (before now : House D) (result : Result T JobFault) : Type 0 where
+pub record JobStep {D T : Type 0} (told : D → Option Store) (faults : D → ℕ) (call : Call)
+    (before now : House D) (result : Result T JobFault) : Type 0 where
   pub whole : IfOk result (λ _. IsWhole told now)
   pub stays : IfErr result (λ why. StaysFor told why now)
   pub same : IfErr result (SameFor before now)

@@ -98,7 +98,7 @@ pub grows-one : (start book : List Entry) (before now : Standing) (action : Acti
 grows-one start book before now (action.Announce session) output refused done = same-grown before.book now.book (ap (λ (s : Standing). s.book) done.0)
 grows-one start book before now (action.Run statement) output refused (inl replies) = by replies.goes
   where
-    by : RepliesAtOnce (from_to start book) before.book now.book (asking_of statement) statement.hold output refused → Grown before.book now.book
+    by : RepliesAtOnce (from_to start book) (from_to before.book now.book) (asking_of statement) statement.hold output refused → Grown before.book now.book
     by (inl went) =
         (opening before.book (asking_of statement) ∷ went.added, went.goes, ((next_number before.book, refl), owned-of (next_number before.book) went.added went.of_it))
     by (inr (inl text)) = same-grown before.book now.book text.0

@@ -47,7 +47,7 @@ use Rattle.hv_law_serial.proofs.Actions.{IsThere, there-later, held-of, opened-i
 -- ---- what a reply says: its transaction has ended
 
 went-answers : (start book before now : List Entry) (asking : Asking) (hold : Option Stage) (reply : List ℕ) (refused : Bool)
-    → WentOn (from_to start book) before now asking hold reply refused → answer (state_of now) (next_number before) ≡ Some reply
+    → WentOn (from_to start book) (from_to before now) asking hold reply refused → answer (state_of now) (next_number before) ≡ Some reply
 went-answers start book before now asking hold reply refused went = went.answered_then.answered.answer_is
 
 held-answers : (start book before now : List Entry) (txn : ℕ) (reply : List ℕ) (refused : Bool)
@@ -307,7 +307,7 @@ module _ (start book : List Entry) (before between : Standing) (asking : Asking)
       stands waits = ap (λ ws. record { book = between.book; waiting = ws }) waits ∙ sym taken
 
   -- it went on to its end
-  went : (reply : List ℕ) (refused : Bool) → WentOn (from_to start book) before.book between.book asking hold reply refused → between.waiting ≡ before.waiting
+  went : (reply : List ℕ) (refused : Bool) → WentOn (from_to start book) (from_to before.book between.book) asking hold reply refused → between.waiting ≡ before.waiting
       → between ≡ taken_up before asking hold
   went reply refused w same =
       let there = opened-later before.book between.book w.added asking w.goes in
@@ -318,7 +318,7 @@ module _ (start book : List Entry) (before between : Standing) (asking : Asking)
       (same ∙ sym (ap (λ b. waits_if b waiter before.waiting) shut))
 
   -- it is held
-  pub put-off : (output : List ℕ) (refused : Bool) → IsPutOff (from_to start book) before between asking hold output refused → between ≡ taken_up before asking hold
+  pub put-off : (output : List ℕ) (refused : Bool) → IsPutOff (from_to start book) (from_to before between) asking hold output refused → between ≡ taken_up before asking hold
   put-off output refused w =
       let added : List Entry = w.goes.added in
       let is : IsOpenIn (first_book ++ added) txn =
@@ -350,11 +350,11 @@ module _ (start book : List Entry) (before between : Standing) (asking : Asking)
       by false = refl
       by true = ap (λ c. if_room c before asking hold) (lt-ltb profile.entries (load (state_of before.book) + 2) full)
 
-  pub at-once : (reply : List ℕ) (refused : Bool) → Replies (from_to start book) before between asking hold reply refused → (reply ≡ memory_line → ⊥)
+  pub at-once : (reply : List ℕ) (refused : Bool) → Replies (from_to start book) (from_to before between) asking hold reply refused → (reply ≡ memory_line → ⊥)
       → between ≡ taken_up before asking hold
   at-once reply refused replies in_memory = by replies.goes
     where
-      by : RepliesAtOnce (from_to start book) before.book between.book asking hold reply refused → between ≡ taken_up before asking hold
+      by : RepliesAtOnce (from_to start book) (from_to before.book between.book) asking hold reply refused → between ≡ taken_up before asking hold
       by (inl w) = went reply refused w replies.waiting_same
       by (inr (inl text)) = refused-text text.0 replies.waiting_same text.1
       by (inr (inr (inl full))) = lacks full.0 replies.waiting_same full.1

@@ -167,7 +167,7 @@ module _ (low high : ℕ) (before now : List Entry) (waiting : List Waiting) (st
   standing-now = record { book = now; waiting = waiting }
 
   went-through : (reply : List ℕ) (refused : Bool) (ended : Option ℕ) → AllFitting now → AddsOf (next_number before) low high before now
-      → WentThrough before now (asking_of statement) statement.hold reply refused ended → Acts low high standing standing-now (action.Run statement) reply refused
+      → WentThrough before now (asking_of statement) statement.hold reply refused ended → Acts (from_to low high) standing standing-now (action.Run statement) reply refused
   went-through reply refused ended fit adds w = record {
     grows = record {
       more = opening before (asking_of statement) ∷ w.added;
@@ -197,7 +197,7 @@ module _ (low high : ℕ) (before now : List Entry) (waiting : List Waiting) (st
   }
 
   pub acts-replied : (reply : List ℕ) (refused : Bool) (ended : Option ℕ) → AllFitting now → AddsOf (next_number before) low high before now
-      → IsReplied before now (asking_of statement) statement.hold reply refused ended → Acts low high standing standing-now (action.Run statement) reply refused
+      → IsReplied before now (asking_of statement) statement.hold reply refused ended → Acts (from_to low high) standing standing-now (action.Run statement) reply refused
   acts-replied reply refused ended fit adds (inl w) = went-through reply refused ended fit adds w
   acts-replied reply refused ended fit adds (inr (inl n)) = record {
     grows = same-grows low high before now n.book;
@@ -266,7 +266,7 @@ quiet (Some stage.Replied) txn added h = absurd h
 pub acts-kept : (low high : ℕ) (before now : List Entry) (helds : List Held) (statement : Statement) (held : Held)
     → AllFitting now → AddsOf (next_number before) low high before now → held.session ≡ statement.session.name
     → IsKept before now (asking_of statement) statement.hold held.paused
-    → Acts low high (record { book = before; waiting = map waiting_of helds }) (record { book = now; waiting = map waiting_of (helds ++ held ∷ []) })
+    → Acts (from_to low high) (record { book = before; waiting = map waiting_of helds }) (record { book = now; waiting = map waiting_of (helds ++ held ∷ []) })
     (action.Run statement) [] false
 acts-kept low high before now helds statement held fit adds named k =
     let is = quiet statement.hold (next_number before) k.added k.at_hold in
@@ -315,7 +315,7 @@ all-waiting P name (first ∷ ws) w all e = waiting-by P (is_session name first)
 pub acts-finished : (low high : ℕ) (before now : List Entry) (helds : List Held) (session : Session) (paused : Paused) (reply : List ℕ) (refused : Bool) (ended : Option ℕ)
     → AllFitting now → AreHeld before helds → paused_in session.name helds ≡ Some paused → AddsOf paused.way.txn.0 low high before now
     → IsFinished before now paused.way.txn.0 reply refused ended
-    → Acts low high (record { book = before; waiting = map waiting_of helds }) (record { book = now; waiting = map waiting_of (held_without session.name helds) })
+    → Acts (from_to low high) (record { book = before; waiting = map waiting_of helds }) (record { book = now; waiting = map waiting_of (held_without session.name helds) })
     (action.Release session) reply refused
 acts-finished low high before now helds session paused reply refused ended fit h found adds f =
     let name = session.name in
@@ -348,7 +348,7 @@ acts-finished low high before now helds session paused reply refused ended fit h
 
 -- nothing is held there
 pub acts-nothing : (low high : ℕ) (book : List Entry) (helds : List Held) (session : Session) → paused_in session.name helds ≡ None
-    → Acts low high (record { book = book; waiting = map waiting_of helds }) (record { book = book; waiting = map waiting_of (held_without session.name helds) })
+    → Acts (from_to low high) (record { book = book; waiting = map waiting_of helds }) (record { book = book; waiting = map waiting_of (held_without session.name helds) })
     (action.Release session) [] false
 acts-nothing low high book helds session none = record {
   grows = grows-none low high book;
@@ -533,10 +533,10 @@ replied-truly told before now helds helds' low high same start fits adds h truly
 pub replied-acts : (before now : List Entry) (helds helds' : List Held) (low high : ℕ) (statement : Statement) (found : Taken) (reply : Reply)
     → helds' ≡ helds → found ≡ taken.Replied reply → AllFitting now → AddsOf (next_number before) low high before now
     → IsTakenAs before now (asking_of statement) statement.hold found
-    → Acts low high (record { book = before; waiting = map waiting_of helds }) (record { book = now; waiting = map waiting_of helds' })
+    → Acts (from_to low high) (record { book = before; waiting = map waiting_of helds }) (record { book = now; waiting = map waiting_of helds' })
     (action.Run statement) reply.text reply.refused
 replied-acts before now helds helds' low high statement found reply same is fit adds taken_as =
-    subst (λ (hs : List Held). Acts low high (record { book = before; waiting = map waiting_of helds }) (record { book = now; waiting = map waiting_of hs })
+    subst (λ (hs : List Held). Acts (from_to low high) (record { book = before; waiting = map waiting_of helds }) (record { book = now; waiting = map waiting_of hs })
     (action.Run statement) reply.text reply.refused) (sym same)
     (acts-replied low high before now (map waiting_of helds) statement reply.text reply.refused reply.ended fit adds
     (subst (IsTakenAs before now (asking_of statement) statement.hold) is taken_as))
@@ -564,12 +564,12 @@ pub kept-acts : (before now : List Entry) (helds helds' helds'' : List Held) (he
     → helds' ≡ helds → helds'' ≡ helds' ++ held ∷ [] → found ≡ taken.Kept held.paused → held.session ≡ statement.session.name → reply ≡ record { text = []; refused = false; ended = None }
     → AllFitting now → AddsOf (next_number before) low high before now
     → IsTakenAs before now (asking_of statement) statement.hold found
-    → Acts low high (record { book = before; waiting = map waiting_of helds }) (record { book = now; waiting = map waiting_of helds'' })
+    → Acts (from_to low high) (record { book = before; waiting = map waiting_of helds }) (record { book = now; waiting = map waiting_of helds'' })
     (action.Run statement) reply.text reply.refused
 kept-acts before now helds helds' helds'' held low high statement found reply same one is named said fit adds taken_as =
-    subst (λ (r : Reply). Acts low high (record { book = before; waiting = map waiting_of helds }) (record { book = now; waiting = map waiting_of helds'' })
+    subst (λ (r : Reply). Acts (from_to low high) (record { book = before; waiting = map waiting_of helds }) (record { book = now; waiting = map waiting_of helds'' })
     (action.Run statement) r.text r.refused) (sym said)
-    (subst (λ (hs : List Held). Acts low high (record { book = before; waiting = map waiting_of helds }) (record { book = now; waiting = map waiting_of hs })
+    (subst (λ (hs : List Held). Acts (from_to low high) (record { book = before; waiting = map waiting_of helds }) (record { book = now; waiting = map waiting_of hs })
     (action.Run statement) [] false) (sym (one ∙ ap (λ (hs : List Held). hs ++ held ∷ []) same))
     (acts-kept low high before now helds statement held fit adds named (subst (IsTakenAs before now (asking_of statement) statement.hold) is taken_as)))
 
@@ -605,13 +605,13 @@ module _ {D : Type 0} (told : D → Option Store) (r : Result Reply HouseFault) 
       whole adds
 
   pub released-acts : IfOk r (λ reply. IsFinished (entries_of before) (entries_of now) paused.way.txn.0 reply.text reply.refused reply.ended)
-      → IfOk r (λ reply. Acts low high (standing_of before helds) (standing_of now helds') (action.Release session) reply.text reply.refused)
+      → IfOk r (λ reply. Acts (from_to low high) (standing_of before helds) (standing_of now helds') (action.Release session) reply.text reply.refused)
   released-acts finished =
       ok-three r (IsWhole told now) (AddsOf paused.way.txn.0 low high (entries_of before) (entries_of now))
       (λ reply. IsFinished (entries_of before) (entries_of now) paused.way.txn.0 reply.text reply.refused reply.ended)
-      (λ reply. Acts low high (standing_of before helds) (standing_of now helds') (action.Release session) reply.text reply.refused)
+      (λ reply. Acts (from_to low high) (standing_of before helds) (standing_of now helds') (action.Release session) reply.text reply.refused)
       (λ is added reply f.
-      subst (λ (hs : List Held). Acts low high (standing_of before helds) (standing_of now hs) (action.Release session) reply.text reply.refused) (sym left)
+      subst (λ (hs : List Held). Acts (from_to low high) (standing_of before helds) (standing_of now hs) (action.Release session) reply.text reply.refused) (sym left)
       (acts-finished low high (entries_of before) (entries_of now) helds session paused reply.text reply.refused reply.ended is.ready.fit h found added f))
       whole adds finished
 
@@ -638,10 +638,10 @@ none-truly told house helds helds' name none left truly = subst (AreTrulyHeld to
 
 pub none-acts : (count : ℕ) (book : List Entry) (helds helds' : List Held) (session : Session) (reply : Reply) → paused_in session.name helds ≡ None
     → helds' ≡ held_without session.name helds → reply ≡ record { text = []; refused = false; ended = None }
-    → Acts count count (record { book = book; waiting = map waiting_of helds }) (record { book = book; waiting = map waiting_of helds' })
+    → Acts (from_to count count) (record { book = book; waiting = map waiting_of helds }) (record { book = book; waiting = map waiting_of helds' })
     (action.Release session) reply.text reply.refused
 none-acts count book helds helds' session reply none left said =
-    subst (λ (r : Reply). Acts count count (record { book = book; waiting = map waiting_of helds }) (record { book = book; waiting = map waiting_of helds' })
+    subst (λ (r : Reply). Acts (from_to count count) (record { book = book; waiting = map waiting_of helds }) (record { book = book; waiting = map waiting_of helds' })
     (action.Release session) r.text r.refused) (sym said)
-    (subst (λ (hs : List Held). Acts count count (record { book = book; waiting = map waiting_of helds }) (record { book = book; waiting = map waiting_of hs })
+    (subst (λ (hs : List Held). Acts (from_to count count) (record { book = book; waiting = map waiting_of helds }) (record { book = book; waiting = map waiting_of hs })
     (action.Release session) [] false) (sym left) (acts-nothing count count book helds session none))

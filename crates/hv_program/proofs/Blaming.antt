@@ -100,12 +100,12 @@ pub hard-memory : (status first last : ℕ) (told told' : Option Store) → stat
 hard-memory status first last told told' is e = absurd (omega (arith, is, e))
 
 pub hard-said : (status wanted first last : ℕ) (told told' : Option Store) (line : List ℕ) (a b : Option (List ℕ)) (sink sink' : ℕ) → (wanted ≡ 5 → ⊥)
-    → IsSaid wanted line a b sink sink' status → status ≡ 5 → FailsStore first last (from_to told told')
+    → IsSaid wanted line (from_to a b) (from_to sink sink') status → status ≡ 5 → FailsStore first last (from_to told told')
 hard-said status wanted first last told told' line a b sink sink' not_it (inl said) e = absurd (not_it (sym said.0 ∙ e))
 hard-said status wanted first last told told' line a b sink sink' not_it (inr cut) e = absurd (omega (arith, cut.0, e))
 
 pub hard-said-or-not : (status wanted first last : ℕ) (told told' : Option Store) (line : List ℕ) (a b : Option (List ℕ)) (sink sink' : ℕ) → (wanted ≡ 5 → ⊥)
-    → IsSaidOrNot wanted line a b sink sink' status → status ≡ 5 → FailsStore first last (from_to told told')
+    → IsSaidOrNot wanted line (from_to a b) (from_to sink sink') status → status ≡ 5 → FailsStore first last (from_to told told')
 hard-said-or-not status wanted first last told told' line a b sink sink' not_it (inl said) e =
     hard-said status wanted first last told told' line a b sink sink' not_it said e
 hard-said-or-not status wanted first last told told' line a b sink sink' not_it (inr unsaid) e = absurd (omega (arith, unsaid.0, e))
@@ -124,7 +124,7 @@ causes-cut before now stores n is rose = record {
 }
 
 pub causes-said : (before now : Counts) (stores : Change (Option Store)) (status wanted : ℕ) (line : List ℕ) (a b : Option (List ℕ)) → (wanted ≡ 3 → ⊥) → (wanted ≡ 4 → ⊥) → (wanted ≡ 5 → ⊥)
-    → IsSaid wanted line a b before.sink now.sink status → HasCauses before now stores status
+    → IsSaid wanted line (from_to a b) (from_to before.sink now.sink) status → HasCauses before now stores status
 causes-said before now stores status wanted line a b three four five (inl said) =
     causes-none before now stores status (λ e. three (sym said.0 ∙ e)) (λ e. four (sym said.0 ∙ e)) (λ e. five (sym said.0 ∙ e))
 causes-said before now stores status wanted line a b three four five (inr cut) = causes-cut before now stores status cut.0 cut.1.cause
@@ -132,10 +132,10 @@ causes-said before now stores status wanted line a b three four five (inr cut) =
 pub causes-memory : (before now : Counts) (stores : Change (Option Store)) (status : ℕ) → status ≡ 7 → HasCauses before now stores status
 causes-memory before now stores status is = causes-none before now stores status (λ e. omega (arith, is, e)) (λ e. omega (arith, is, e)) (λ e. omega (arith, is, e))
 
-pub causes-words : (before now : Counts) (stores : Change (Option Store)) (status : ℕ) (line : List ℕ) (a b : Option (List ℕ)) → IsSaid 2 line a b before.sink now.sink status → HasCauses before now stores status
+pub causes-words : (before now : Counts) (stores : Change (Option Store)) (status : ℕ) (line : List ℕ) (a b : Option (List ℕ)) → IsSaid 2 line (from_to a b) (from_to before.sink now.sink) status → HasCauses before now stores status
 causes-words before now stores status line a b said = causes-said before now stores status 2 line a b (λ e. omega (arith, e)) (λ e. omega (arith, e)) (λ e. omega (arith, e)) said
 
-pub causes-script : (before now : Counts) (stores : Change (Option Store)) (status : ℕ) (line : List ℕ) (a b : Option (List ℕ)) → IsSaidOrNot 8 line a b before.sink now.sink status → HasCauses before now stores status
+pub causes-script : (before now : Counts) (stores : Change (Option Store)) (status : ℕ) (line : List ℕ) (a b : Option (List ℕ)) → IsSaidOrNot 8 line (from_to a b) (from_to before.sink now.sink) status → HasCauses before now stores status
 causes-script before now stores status line a b (inl said) = causes-said before now stores status 8 line a b (λ e. omega (arith, e)) (λ e. omega (arith, e)) (λ e. omega (arith, e)) said
 causes-script before now stores status line a b (inr unsaid) = causes-memory before now stores status unsaid.0
 

@@ -26,7 +26,8 @@ answer-more start book more asking txn reply refused h = record {
 }
 
 at-once-more : (start book more before now : List Entry) (asking : Asking) (hold : Option Stage) (reply : List ℕ) (refused : Bool)
-    → RepliesAtOnce (from_to start book) before now asking hold reply refused → RepliesAtOnce (from_to start (book ++ more)) before now asking hold reply refused
+    → RepliesAtOnce (from_to start book) (from_to before now) asking hold reply refused
+    → RepliesAtOnce (from_to start (book ++ more)) (from_to before now) asking hold reply refused
 unfolding answer-more
 at-once-more start book more before now asking hold reply refused (inl h) = inl (record {
   added = h.added;

@@ -95,7 +95,7 @@ as-halfway before act now part = record {
 }
 
 stopped : (why : HouseFault) (told : Option Store) (low high : ℕ) (actions : List Action) (written now : List ℕ) (start book : List Entry) (Keeps : Standing → Action → List Entry → Type 0)
-    → (h : StopsIn why told (from_to low high) start book actions (from_to (Some written) (Some now))) → Keeps h.before h.action book → (after : Store) → OpensLater book after
+    → (h : StopsIn why told (from_to low high) (from_to start book) actions (from_to (Some written) (Some now))) → Keeps h.before h.action book → (after : Store) → OpensLater book after
     → IsStopped (from_to low high) start actions (from_to written now) after Keeps
 stopped why told low high actions written now start book Keeps h keeps after opens = record {
   front = h.front;
@@ -212,7 +212,7 @@ ended-ok told now low high opened actions refused sink written n before whole is
 
 -- or the run stopped
 ended-err : (why : Stop) (low high : ℕ) (opened : List Entry) (actions : List Action) (sink : Option (List ℕ)) (told : Option Store) (written n : List ℕ) (before : Store) (book : List Entry)
-    → sink ≡ Some n → Halts why (from_to low high) (opening_of before.tree opened) book actions (from_to (Some written) (Some n)) told
+    → sink ≡ Some n → Halts why (from_to low high) (from_to (opening_of before.tree opened) book) actions (from_to (Some written) (Some n)) told
     → BothTell sink told
     (λ wrote after. ServedOf (status_of_stop why) (from_to low high) opened actions (from_to written wrote) (from_to before after))
 ended-err stop.Source low high opened actions sink told written n before book at_sink h = absurd h
@@ -227,8 +227,8 @@ ended-err stop.Sink low high opened actions sink told written n before book at_s
     }
 ended-err stop.Store low high opened actions sink told written n before book at_sink h =
     let left = found-some (OpensLater book) told h.1 in
-    let stops : StopsIn fault.Store (Some left.0) (from_to low high) (opening_of before.tree opened) book actions (from_to (Some written) (Some n)) =
-    subst (λ (o : Option Store). StopsIn fault.Store o (from_to low high) (opening_of before.tree opened) book actions (from_to (Some written) (Some n))) left.1 h.0 in
+    let stops : StopsIn fault.Store (Some left.0) (from_to low high) (from_to (opening_of before.tree opened) book) actions (from_to (Some written) (Some n)) =
+    subst (λ (o : Option Store). StopsIn fault.Store o (from_to low high) (from_to (opening_of before.tree opened) book) actions (from_to (Some written) (Some n))) left.1 h.0 in
     record {
       now = n;
       store = left.0;
@@ -239,8 +239,8 @@ ended-err stop.Store low high opened actions sink told written n before book at_
     }
 ended-err stop.NoMemory low high opened actions sink told written n before book at_sink h =
     let left = found-some (OpensLater book) told h.1 in
-    let stops : StopsIn fault.NoMemory (Some left.0) (from_to low high) (opening_of before.tree opened) book actions (from_to (Some written) (Some n)) =
-    subst (λ (o : Option Store). StopsIn fault.NoMemory o (from_to low high) (opening_of before.tree opened) book actions (from_to (Some written) (Some n))) left.1 h.0 in
+    let stops : StopsIn fault.NoMemory (Some left.0) (from_to low high) (from_to (opening_of before.tree opened) book) actions (from_to (Some written) (Some n)) =
+    subst (λ (o : Option Store). StopsIn fault.NoMemory o (from_to low high) (from_to (opening_of before.tree opened) book) actions (from_to (Some written) (Some n))) left.1 h.0 in
     record {
       now = n;
       store = left.0;
@@ -265,7 +265,8 @@ prints-wider first low high start book actions sink sink' refused below h = (
 )
 
 stops-wider : (why : HouseFault) (told : Option Store) (first low high : ℕ) (start book : List Entry) (actions : List Action) (sink sink' : Option (List ℕ)) → first ≤ low
-    → StopsIn why told (from_to low high) start book actions (from_to sink sink') → StopsIn why told (from_to first high) start book actions (from_to sink sink')
+    → StopsIn why told (from_to low high) (from_to start book) actions (from_to sink sink')
+    → StopsIn why told (from_to first high) (from_to start book) actions (from_to sink sink')
 stops-wider why told first low high start book actions sink sink' below h = record {
   front = h.front;
   action = h.action;
@@ -301,7 +302,7 @@ cuts-wider first low high start book actions sink sink' below h = record {
 }
 
 halts-wider : (why : Stop) (told : Option Store) (first low high : ℕ) (start book : List Entry) (actions : List Action) (sink sink' : Option (List ℕ)) → first ≤ low
-    → Halts why (from_to low high) start book actions (from_to sink sink') told → Halts why (from_to first high) start book actions (from_to sink sink') told
+    → Halts why (from_to low high) (from_to start book) actions (from_to sink sink') told → Halts why (from_to first high) (from_to start book) actions (from_to sink sink') told
 halts-wider stop.Source told first low high start book actions sink sink' below h = h
 halts-wider stop.Sink told first low high start book actions sink sink' below h = (cuts-wider first low high start book actions sink sink' below h.0, h.1)
 halts-wider stop.Store told first low high start book actions sink sink' below h = (stops-wider fault.Store told first low high start book actions sink sink' below h.0, h.1)
@@ -313,7 +314,7 @@ record Promised {D : Type 0} (told : D → Option Store) (faults : Change ℕ) (
   start : now.start ≡ house.start
   whole : IfOk ran (λ _. IsWhole told now)
   prints : IsToldHouse told house → IfOk ran (PrintsAll faults (entries_of house) (entries_of now) actions sinks)
-  halts : IsToldHouse told house → IfErr ran (λ why. Halts why faults (entries_of house) (entries_of now) actions sinks (told now.shelf))
+  halts : IsToldHouse told house → IfErr ran (λ why. Halts why faults (from_to (entries_of house) (entries_of now)) actions sinks (told now.shelf))
 
 ended : {D : Type 0} (told : D → Option Store) (house now : House D) (first low high : ℕ) (opened : List Entry) (actions : List Action) (ran : Result Bool Stop) (sink sink' : Option (List ℕ))
     (written n : List ℕ) (before : Store) → first ≤ low → IsToldHouse told house → entries_of house ≡ opening_of before.tree opened → sink ≡ Some written → sink' ≡ Some n
@@ -327,10 +328,10 @@ ended told house now first low high opened actions (Ok refused) sink sink' writt
     ended-ok told now first high opened actions refused sink' written n before h.whole (told-stays told house now h.start is) at_now
     (prints-wider first low high (opening_of before.tree opened) (entries_of now) actions (Some written) (Some n) refused below prints)
 ended told house now first low high opened actions (Err why) sink sink' written n before below is begun at_sink at_now h =
-    let halts : Halts why (from_to low high) (opening_of before.tree opened) (entries_of now) actions (from_to (Some written) (Some n)) (told now.shelf) =
-    subst (λ (a : Option (List ℕ)). Halts why (from_to low high) (opening_of before.tree opened) (entries_of now) actions (from_to a (Some n)) (told now.shelf)) at_sink
-    (subst (λ (a : Option (List ℕ)). Halts why (from_to low high) (opening_of before.tree opened) (entries_of now) actions (from_to sink a) (told now.shelf)) at_now
-    (subst (λ (book : List Entry). Halts why (from_to low high) book (entries_of now) actions (from_to sink sink') (told now.shelf)) begun (h.halts is))) in
+    let halts : Halts why (from_to low high) (from_to (opening_of before.tree opened) (entries_of now)) actions (from_to (Some written) (Some n)) (told now.shelf) =
+    subst (λ (a : Option (List ℕ)). Halts why (from_to low high) (from_to (opening_of before.tree opened) (entries_of now)) actions (from_to a (Some n)) (told now.shelf)) at_sink
+    (subst (λ (a : Option (List ℕ)). Halts why (from_to low high) (from_to (opening_of before.tree opened) (entries_of now)) actions (from_to sink a) (told now.shelf)) at_now
+    (subst (λ (book : List Entry). Halts why (from_to low high) (from_to book (entries_of now)) actions (from_to sink sink') (told now.shelf)) begun (h.halts is))) in
     ended-err why first high opened actions sink' (told now.shelf) written n before (entries_of now) at_now
     (halts-wider why (told now.shelf) first low high (opening_of before.tree opened) (entries_of now) actions (Some written) (Some n) below halts)
 
@@ -338,7 +339,7 @@ pub Serves-run : {D : Type 0} (told : D → Option Store) (shelf : D) (house now
     (sink sink' : Option (List ℕ)) (closed : Option Store) → status ≡ ran_status ran → first ≤ low → last ≡ high → given ≡ actions → closed ≡ told now.shelf
     → Opens profile (told shelf) (entries_of house) → IsOpenedOver shelf house → now.start ≡ house.start → IfOk ran (λ _. IsWhole told now)
     → (IsToldHouse told house → IfOk ran (PrintsAll (from_to low high) (entries_of house) (entries_of now) given (from_to sink sink')))
-    → (IsToldHouse told house → IfErr ran (λ why. Halts why (from_to low high) (entries_of house) (entries_of now) given (from_to sink sink') (told now.shelf)))
+    → (IsToldHouse told house → IfErr ran (λ why. Halts why (from_to low high) (from_to (entries_of house) (entries_of now)) given (from_to sink sink') (told now.shelf)))
     → StaysTold sink sink' → Serves status (from_to first last) actions (from_to sink sink') (from_to (told shelf) closed)
 Serves-run told shelf house now status first low high last actions given ran sink sink' closed status_is below last_is actions_are closed_is is over start whole prints halts heard =
     let there : Serves (ran_status ran) (from_to first high) given (from_to sink sink') (from_to (told shelf) (told now.shelf)) = λ written store opened at_sink at_told opens.
@@ -447,7 +448,7 @@ moved P (Some z) None x e m = absurd m
 moved P (Some z) (Some y) x e m = (y, refl, subst (λ w. P w y) (same_some z x e) m)
 
 pub Serves-full : (status low high : ℕ) (actions : List Action) (sink sink' : Option (List ℕ)) (told told' : Option Store) (faults faults' : ℕ) → told' ≡ told → Tells told (HasFullBook profile)
-    → IsSaid 9 full_line sink sink' faults faults' status → Serves status (from_to low high) actions (from_to sink sink') (from_to told told')
+    → IsSaid 9 full_line (from_to sink sink') (from_to faults faults') status → Serves status (from_to low high) actions (from_to sink sink') (from_to told told')
 Serves-full status low high actions sink sink' told told' faults faults' same full (inl said) = λ written store opened at_sink at_told opens.
     let there = moved (Gains full_line) sink sink' written at_sink said.1.wrote in
     record {

@@ -18,6 +18,7 @@ use Rattle.hv_script.specs.Standing.{fault_lines, first_standing}
 use Rattle.hv_program.specs.declared.stop.Stop.{Stop}
 use Rattle.hv_program.specs.declared.stop.Stop.TheVariants as stop
 use Rattle.hv_program.specs.Stops.{status_of_stop}
+use Rattle.hv_program.specs.Change.{from_to}
 use Rattle.hv_program.specs.Reading.{TakesUpTo}
 use Rattle.hv_program.specs.Headline.{Outside}
 use Rattle.hv_program.specs.Serving.{ran_status, IsSaid, IsSaidOrNot, IsClosed, IsFilled, Opens}
@@ -148,13 +149,13 @@ module _ (sink sink' : Option (List ℕ)) (told told' : Option Store) where
   }
 
   pub opens-bad : (faults faults' status at : ℕ) (why : BootFault) → why ≡ boot.BadJournal at → IsBootFault profile told told' why
-      → IsSaidOrNot 6 (journal_line at) sink sink' faults faults' status → Opens sink sink' told told' status
+      → IsSaidOrNot 6 (journal_line at) (from_to sink sink') (from_to faults faults') status → Opens sink sink' told told' status
   opens-bad faults faults' status at why is fault said = by said
     where
       found : (told' ≡ told) × Tells told (λ s. IsBadJournalAt profile s.journal at) × Tells told (HasNoBook profile)
       found = bad-found told told' why at is fault
 
-      by : IsSaidOrNot 6 (journal_line at) sink sink' faults faults' status → Opens sink sink' told told' status
+      by : IsSaidOrNot 6 (journal_line at) (from_to sink sink') (from_to faults faults') status → Opens sink sink' told told' status
       by (inl (inl whole)) =
           subst (Opens sink sink' told told') (sym whole.0)
           (opens-six (record { at = at; journal = found.1; shut = found.2; same = found.0; wrote = whole.1.wrote }))
@@ -164,13 +165,13 @@ module _ (sink sink' : Option (List ℕ)) (told told' : Option Store) where
       by (inr unsaid) = opens-memory status sink sink' told told' unsaid.0
 
   pub opens-full : (faults faults' status entries : ℕ) (why : BootFault) → why ≡ boot.Full entries → IsBootFault profile told told' why
-      → IsSaid 9 full_line sink sink' faults faults' status → Opens sink sink' told told' status
+      → IsSaid 9 full_line (from_to sink sink') (from_to faults faults') status → Opens sink sink' told told' status
   opens-full faults faults' status entries why is fault said = by said
     where
       found : (told' ≡ told) × Tells told (λ s. IsFullAt profile entries s.journal) × Tells told (HasFullBook profile)
       found = full-found told told' why entries is fault
 
-      by : IsSaid 9 full_line sink sink' faults faults' status → Opens sink sink' told told' status
+      by : IsSaid 9 full_line (from_to sink sink') (from_to faults faults') status → Opens sink sink' told told' status
       by (inl whole) =
           subst (Opens sink sink' told told') (sym whole.0)
           (opens-nine (record { entries = entries; journal = found.1; shut = found.2; same = found.0; wrote = whole.1.wrote }))
@@ -221,7 +222,7 @@ module _ (words : List (List ℕ)) (before after : Outside) where
   }
 
   pub refuses-words : (status : ℕ) → run_of words ≡ None → after.source ≡ before.source → after.store ≡ before.store
-      → (faults faults' : ℕ) → IsSaid 2 words_line before.sink after.sink faults faults' status → Refuses words before after status
+      → (faults faults' : ℕ) → IsSaid 2 words_line (from_to before.sink after.sink) (from_to faults faults') status → Refuses words before after status
   refuses-words status none source store faults faults' (inl said) =
       subst (Refuses words before after) (sym said.0)
       (refuses-two none (record { words_are = none; source_same = source; says = record { wrote = said.1.wrote; store_same = store } }))
@@ -289,7 +290,7 @@ module _ (words : List (List ℕ)) (before after : Outside) where
   }
 
   pub refuses-script : (status line : ℕ) → IsSome (run_of words) → Tells before.source (λ script. refused_at script ≡ Some line)
-      → after.store ≡ before.store → (faults faults' : ℕ) → IsSaidOrNot 8 (script_line line) before.sink after.sink faults faults' status → Refuses words before after status
+      → after.store ≡ before.store → (faults faults' : ℕ) → IsSaidOrNot 8 (script_line line) (from_to before.sink after.sink) (from_to faults faults') status → Refuses words before after status
   refuses-script status line some refused store faults faults' (inl (inl said)) =
       subst (Refuses words before after) (sym said.0)
       (refuses-eight (record { words_are = some; line = line; refused = refused; says = record { wrote = said.1.wrote; store_same = store } }))
@@ -399,8 +400,8 @@ pub a-command : (result o : Option Command) (b : Bool) → result ≡ o → is_s
 a-command None o b same e false_ = let wrong : false ≡ true = e ∙ ap not false_ in cc
 a-command (Some command) o b same e false_ = subst IsSome same refl
 
-pub said-words : (sink sink' : Option (List ℕ)) (faults faults' status : ℕ) → IsSaid 2 (codes "hive: bad words\n") sink sink' faults faults' status
-    → IsSaid 2 words_line sink sink' faults faults' status
+pub said-words : (sink sink' : Option (List ℕ)) (faults faults' status : ℕ) → IsSaid 2 (codes "hive: bad words\n") (from_to sink sink') (from_to faults faults') status
+    → IsSaid 2 words_line (from_to sink sink') (from_to faults faults') status
 unfolding words_line
 said-words sink sink' faults faults' status said = said
 
@@ -409,6 +410,6 @@ pub refused-line : (script : List ℕ) (actions : List Action) (fault : ScriptFa
 refused-line script actions fault line is reading = subst (λ (f : ScriptFault). IsReading (refused_at script) actions (Err f)) is reading
 
 pub said-line : (wanted : ℕ) (line written : List ℕ) (sink sink' : Option (List ℕ)) (faults faults' status : ℕ) → written ≡ line
-    → IsSaid wanted written sink sink' faults faults' status → IsSaidOrNot wanted line sink sink' faults faults' status
+    → IsSaid wanted written (from_to sink sink') (from_to faults faults') status → IsSaidOrNot wanted line (from_to sink sink') (from_to faults faults') status
 said-line wanted line written sink sink' faults faults' status same said =
-    inl (subst (λ (bytes : List ℕ). IsSaid wanted bytes sink sink' faults faults' status) same said)
+    inl (subst (λ (bytes : List ℕ). IsSaid wanted bytes (from_to sink sink') (from_to faults faults') status) same said)

@@ -204,8 +204,8 @@ released start book before now name held (Some waiting) output refused is done h
     (else-without name before.waiting h.apart))
 
 run-settles : (start book : List Entry) (before now : Standing) (place : Place) (item : Item) (output : List ℕ) (refused : Bool) → is_held place.current place.held ≡ false
-    → Replies (from_to start book) before now (asking_of (statement_in place item)) (statement_in place item).hold output refused
-    ⊎ IsPutOff (from_to start book) before now (asking_of (statement_in place item)) (statement_in place item).hold output refused
+    → Replies (from_to start book) (from_to before now) (asking_of (statement_in place item)) (statement_in place item).hold output refused
+    ⊎ IsPutOff (from_to start book) (from_to before now) (asking_of (statement_in place item)) (statement_in place item).hold output refused
     → Settles place.held before.waiting → Settles (with_held place.current place.pending place.held) now.waiting
 run-settles start book before now place item output refused free (inl done) h =
     subst (Settles (with_held place.current place.pending place.held)) (sym done.waiting_same) (with-settles place.current place.pending place.held before.waiting h)

@@ -55,7 +55,7 @@ module _ (low middle high : ℕ) (below : low ≤ middle) (above : middle ≤ hi
       (are-done-more start before.book grows.more (beginning start) before actions output refused h)
 
   Prints-turn : (actions : List Action) (a b c : Option (List ℕ)) (refused : Bool) (act : Action) (reply : List ℕ) (this : Bool) → Moves (Gains reply) b c
-      → Prints (from_to low middle) start before actions (from_to a b) refused → Acts middle high before now act reply this
+      → Prints (from_to low middle) start before actions (from_to a b) refused → Acts (from_to middle high) before now act reply this
       → Prints (from_to low high) start now (actions ++ act ∷ []) (from_to a c) (refused || this)
   Prints-turn actions a b c refused act reply this wrote h acts =
       let done = acts.done start (stood actions a b refused h) in
@@ -70,7 +70,7 @@ module _ (low middle high : ℕ) (below : low ≤ middle) (above : middle ≤ hi
 
   pub Prints-next : (actions : List Action) (i : ℕ) (act : Action) (reply bytes : List ℕ) (refused this : Bool) (a b c : Option (List ℕ))
       → i < length actions → act ≡ get_or actions i act → bytes ≡ reply → Moves (Gains bytes) b c
-      → Prints (from_to low middle) start before (take i actions) (from_to a b) refused → Acts middle high before now act reply this
+      → Prints (from_to low middle) start before (take i actions) (from_to a b) refused → Acts (from_to middle high) before now act reply this
       → Prints (from_to low high) start now (take (i + 1) actions) (from_to a c) (refused || this)
   Prints-next actions i act reply bytes refused this a b c inside is same wrote_bytes h acts =
       let wrote : Moves (Gains reply) b c = subst (λ w. Moves (Gains w) b c) same wrote_bytes in
@@ -84,7 +84,7 @@ module _ (low middle high : ℕ) (below : low ≤ middle) (above : middle ≤ hi
 
   Prints-cut : (actions front behind : List Action) (a b c : Option (List ℕ)) (refused : Bool) (act : Action) (reply : List ℕ) (this : Bool)
       → actions ≡ front ++ act ∷ behind → Moves (GainsPart reply) b c
-      → Prints (from_to low middle) start before front (from_to a b) refused → Acts middle high before now act reply this → CutsOff (from_to low high) start now.book actions (from_to a c)
+      → Prints (from_to low middle) start before front (from_to a b) refused → Acts (from_to middle high) before now act reply this → CutsOff (from_to low high) start now.book actions (from_to a c)
   Prints-cut actions front behind a b c refused act reply this are wrote h acts = record {
     front = front;
     action = act;
@@ -112,12 +112,12 @@ split_at (first ∷ actions) (suc i) act below is = ap (λ (xs : List Action). f
 pub Halts-cut : {D : Type 0} (told : D → Option Store) (result : Result Bool Stop) (low middle high : ℕ) (start : List Entry) (before : Standing) (house : House D) (helds : List Held) (actions : List Action)
     (i : ℕ) (act : Action) (reply bytes : List ℕ) (refused this : Bool) (a b c : Option (List ℕ)) → IsErrAnd result (λ e. e ≡ stop.Sink) → low ≤ middle → middle ≤ high
     → i < length actions → act ≡ get_or actions i act → bytes ≡ reply → Moves (GainsPart bytes) b c
-    → Prints (from_to low middle) start before (take i actions) (from_to a b) refused → Acts middle high before (standing_of house helds) act reply this
+    → Prints (from_to low middle) start before (take i actions) (from_to a b) refused → Acts (from_to middle high) before (standing_of house helds) act reply this
     → IsWhole told house → IsToldHouse told house
-    → IfErr result (λ why. Halts why (from_to low high) start (entries_of house) actions (from_to a c) (told house.shelf))
+    → IfErr result (λ why. Halts why (from_to low high) (from_to start (entries_of house)) actions (from_to a c) (told house.shelf))
 Halts-cut told result low middle high start before house helds actions i act reply bytes refused this a b c err below above inside is same wrote_bytes h acts whole told_of =
     let wrote : Moves (GainsPart reply) b c = subst (λ w. Moves (GainsPart w) b c) same wrote_bytes in
-    passed_up result stop.Sink (λ why. Halts why (from_to low high) start (entries_of house) actions (from_to a c) (told house.shelf)) err (
+    passed_up result stop.Sink (λ why. Halts why (from_to low high) (from_to start (entries_of house)) actions (from_to a c) (told house.shelf)) err (
       Prints-cut low middle high below above start before (standing_of house helds) actions (take i actions) (drop (suc i) actions) a b c refused act reply this (split_at actions i act inside is) wrote h acts,
       has-all told house whole told_of,
     )
@@ -126,7 +126,7 @@ Halts-cut told result low middle high start before house helds actions i act rep
 
 Prints-stopped : (why : HouseFault) (told : Option Store) (low middle high : ℕ) (start : List Entry) (before : Standing) (book : List Entry) (actions front behind : List Action) (a b : Option (List ℕ)) (refused : Bool) (act : Action)
     → low ≤ middle → middle ≤ high → actions ≡ front ++ act ∷ behind → IsLegal profile before.book
-    → Prints (from_to low middle) start before front (from_to a b) refused → Stops (Unit {0}) why told before act book → StopsIn why told (from_to low high) start book actions (from_to a b)
+    → Prints (from_to low middle) start before front (from_to a b) refused → Stops (Unit {0}) why told before act book → StopsIn why told (from_to low high) (from_to start book) actions (from_to a b)
 Prints-stopped why told low middle high start before book actions front behind a b refused act below above are legal h stops = record {
   front = front;
   action = act;
@@ -169,7 +169,8 @@ known-stops why told before act now is stops = record {
 }
 
 halts : (why : HouseFault) (told : Option Store) (low high : ℕ) (start book : List Entry) (actions : List Action) (a b : Option (List ℕ)) → EndsRun why
-    → StopsIn why told (from_to low high) start book actions (from_to a b) → IsSomeAnd told (OpensLater book) → Halts (stop_of why) (from_to low high) start book actions (from_to a b) told
+    → StopsIn why told (from_to low high) (from_to start book) actions (from_to a b) → IsSomeAnd told (OpensLater book)
+    → Halts (stop_of why) (from_to low high) (from_to start book) actions (from_to a b) told
 halts fault.Store told low high start book actions a b ends stopped opens = (stopped, opens)
 halts (fault.Failed count) told low high start book actions a b ends stopped opens = absurd ends
 halts fault.NoMemory told low high start book actions a b ends stopped opens = (stopped, opens)
@@ -179,10 +180,10 @@ pub Halts-stopped : {D : Type 0} (told : D → Option Store) (why : HouseFault) 
     → i < length actions → act ≡ get_or actions i act
     → Prints (from_to low middle) start (standing_of before helds) (take i actions) (from_to a b) refused → IsWhole told before → IsToldHouse told before
     → Stops (IsToldHouse told before) why (told now.shelf) (standing_of before helds) act (entries_of now) → StillOpens told now
-    → IfErr result (λ e. Halts e (from_to low high) start (entries_of now) actions (from_to a b) (told now.shelf))
+    → IfErr result (λ e. Halts e (from_to low high) (from_to start (entries_of now)) actions (from_to a b) (told now.shelf))
 Halts-stopped told why result low middle high start before now helds actions i act refused a b err below above inside is h whole told_of stops opens =
     let shown = whole-shown told before whole told_of in
-    passed_up result (stop_of why) (λ e. Halts e (from_to low high) start (entries_of now) actions (from_to a b) (told now.shelf)) err
+    passed_up result (stop_of why) (λ e. Halts e (from_to low high) (from_to start (entries_of now)) actions (from_to a b) (told now.shelf)) err
     (halts why (told now.shelf) low high start (entries_of now) actions a b (stops-ends why (told now.shelf) (standing_of before helds) act (entries_of now) stops)
     (Prints-stopped why (told now.shelf) low middle high start (standing_of before helds) (entries_of now) actions (take i actions) (drop (suc i) actions) a b refused act below above
     (split_at actions i act inside is) shown.2.legal h

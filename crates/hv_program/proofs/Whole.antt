@@ -142,7 +142,7 @@ module _ (low high : ℕ) (words : List (List ℕ)) (book : List Entry) (script 
   }
 
   after-line : (status wanted : ℕ) (line : List ℕ) (sink sink' : Option (List ℕ)) (faults faults' : ℕ) → IsLineOf words book script line → IsAfter (from_to low high) words book wanted (from_to script left) (from_to written now) (from_to before after)
-      → after ≡ before → sink ≡ Some written → sink' ≡ Some now → IsSaid wanted line sink sink' faults faults' status
+      → after ≡ before → sink ≡ Some written → sink' ≡ Some now → IsSaid wanted line (from_to sink sink') (from_to faults faults') status
       → IsAfter (from_to low high) words book status (from_to script left) (from_to written now) (from_to before after)
   after-line status wanted line sink sink' faults faults' is well same at_sink at_now (inl said) =
       subst (λ n. IsAfter (from_to low high) words book n (from_to script left) (from_to written now) (from_to before after)) (sym said.0) well
@@ -151,7 +151,7 @@ module _ (low high : ℕ) (words : List (List ℕ)) (book : List Entry) (script 
       (after-four (record { line = line; is_line = is; wrote = between (GainsPart line) sink sink' written now at_sink at_now cut.1.wrote; store_same = same }))
 
   after-said : (status wanted : ℕ) (line : List ℕ) (sink sink' : Option (List ℕ)) (faults faults' : ℕ) → IsLineOf words book script line → IsAfter (from_to low high) words book wanted (from_to script left) (from_to written now) (from_to before after)
-      → after ≡ before → sink ≡ Some written → sink' ≡ Some now → IsSaidOrNot wanted line sink sink' faults faults' status
+      → after ≡ before → sink ≡ Some written → sink' ≡ Some now → IsSaidOrNot wanted line (from_to sink sink') (from_to faults faults') status
       → IsAfter (from_to low high) words book status (from_to script left) (from_to written now) (from_to before after)
   after-said status wanted line sink sink' faults faults' is well same at_sink at_now (inl said) = after-line status wanted line sink sink' faults faults' is well same at_sink at_now said
   after-said status wanted line sink sink' faults faults' is well same at_sink at_now (inr unsaid) =
@@ -196,7 +196,7 @@ module _ (low high : ℕ) (words : List (List ℕ)) (book : List Entry) (script 
 -- ---- the cases of a run
 
 pub Headline-words : (low high : ℕ) (words : List (List ℕ)) (source sink sink' : Option (List ℕ)) (told : Option Store) (faults faults' status : ℕ)
-    → run_of words ≡ None → StaysTold sink sink' → IsSaid 2 words_line sink sink' faults faults' status
+    → run_of words ≡ None → StaysTold sink sink' → IsSaid 2 words_line (from_to sink sink') (from_to faults faults') status
     → Headline words (record { source = source; sink = sink; store = told }) (record { source = source; sink = sink'; store = told }) low high status
 Headline-words low high words source sink sink' told faults faults' status none heard said =
     Headline-by low high words source source sink sink' told told status (stays_same source) heard (leaves-same sink told)
@@ -227,7 +227,7 @@ tells-here P o x e h = subst (λ w. Tells w P) e h
 
 pub Headline-refused : (low high : ℕ) (words : List (List ℕ)) (source source' sink sink' : Option (List ℕ)) (told : Option Store) (faults faults' status line : ℕ)
     → IsSome (run_of words) → Tells source (λ script. refused_at script ≡ Some line)
-    → StaysTold source source' → StaysTold sink sink' → IsSaidOrNot 8 (script_line line) sink sink' faults faults' status
+    → StaysTold source source' → StaysTold sink sink' → IsSaidOrNot 8 (script_line line) (from_to sink sink') (from_to faults faults') status
     → Headline words (record { source = source; sink = sink; store = told }) (record { source = source'; sink = sink'; store = told }) low high status
 Headline-refused low high words source source' sink sink' told faults faults' status line some refused read heard said =
     Headline-by low high words source source' sink sink' told told status read heard (leaves-same sink told)

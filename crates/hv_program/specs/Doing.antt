@@ -21,7 +21,7 @@ use Rattle.hv_session.specs.hv_beginning.specs.hv_steps.specs.Ending.{HasReplied
 use Rattle.hv_session.specs.Faults.{IsFaultLine}
 use Rattle.hv_session.specs.hv_beginning.specs.hv_steps.specs.hv_table_reader.specs.hv_acts.specs.hv_telling.specs.hv_house.specs.Asking.{CanBegin}
 use Rattle.hv_session.specs.Taking.{StartsIfItCan, EndsBefore, HoldsAt}
-use Rattle.hv_program.specs.Change.{Change}
+use Rattle.hv_program.specs.Change.{Change, from_to}
 
 -- ---- where a run stands between two actions
 
@@ -75,27 +75,26 @@ pub record IsLineOf (reply wanted : List ℕ) (refused : Bool) : Type 0 where
 
 -- It went on to its end at once: as a transaction that started where it could, whose entries come in the order of its way, and that ended
 -- then, before the place where it was to be held.
-pub record WentOn (books : Change (List Entry)) (before now : List Entry) (asking : Asking) (hold : Option Stage)
-    (reply : List ℕ) (refused : Bool) : Type 0 where
+pub record WentOn (books step : Change (List Entry)) (asking : Asking) (hold : Option Stage) (reply : List ℕ)
+    (refused : Bool) : Type 0 where
   pub added : List Entry
-  pub goes : now ≡ before ++ opening before asking ∷ added
+  pub goes : step.now ≡ step.was ++ opening step.was asking ∷ added
   pub tree : Stmt
   pub runs : Runs asking.text tree
-  pub starts : StartsIfItCan before tree (next_number before) added
-  pub of_it : AreOf (next_number before) added
-  pub in_time : EndsBefore hold (next_number before) added
-  pub is_answer : IsAnswerIn books asking (next_number before) reply refused
-  pub answered_then : HasReplied now (next_number before) reply refused is_answer.ended
-  pub in_order : AllInOrder (state_of before) (opening before asking ∷ added)
+  pub starts : StartsIfItCan step.was tree (next_number step.was) added
+  pub of_it : AreOf (next_number step.was) added
+  pub in_time : EndsBefore hold (next_number step.was) added
+  pub is_answer : IsAnswerIn books asking (next_number step.was) reply refused
+  pub answered_then : HasReplied step.now (next_number step.was) reply refused is_answer.ended
+  pub in_order : AllInOrder (state_of step.was) (opening step.was asking ∷ added)
 
-abbrev pub RepliesAtOnce : Change (List Entry) → List Entry → List Entry → Asking → Option Stage → List ℕ → Bool
-    → Type 0
-RepliesAtOnce books before now asking hold reply refused =
-    WentOn books before now asking hold reply refused
-    ⊎ ((now ≡ before) × IsRefused asking.text × IsFaultIn asking.text reply refused)
-    ⊎ ((now ≡ before) × (profile.entries < load (state_of before) + 2)
+abbrev pub RepliesAtOnce : Change (List Entry) → Change (List Entry) → Asking → Option Stage → List ℕ → Bool → Type 0
+RepliesAtOnce books step asking hold reply refused =
+    WentOn books step asking hold reply refused
+    ⊎ ((step.now ≡ step.was) × IsRefused asking.text × IsFaultIn asking.text reply refused)
+    ⊎ ((step.now ≡ step.was) × (profile.entries < load (state_of step.was) + 2)
     × IsLineOf reply (cause_text None cause.Full) refused)
-    ⊎ ((now ≡ before) × IsLineOf reply (cause_text None cause.Memory) refused)
+    ⊎ ((step.now ≡ step.was) × IsLineOf reply (cause_text None cause.Memory) refused)
 
 -- It is held: its transaction is open, and nothing is printed. Its entries come in the order of its way, and none is left that comes before
 -- its hold: before its commit it has asked for all aborts that its text lists.
@@ -114,15 +113,16 @@ pub record IsHeldNow (books : Change (List Entry)) (before now : List Entry) (as
       (λ transaction. IsAtHold hold transaction.given (meaning transaction)
       × HasAskedAt hold (state_of now) (next_number before) transaction)
 
-pub record Replies (books : Change (List Entry)) (before now : Standing) (asking : Asking) (hold : Option Stage)
+pub record Replies (books : Change (List Entry)) (step : Change Standing) (asking : Asking) (hold : Option Stage)
     (output : List ℕ) (refused : Bool) : Type 0 where
-  pub goes : RepliesAtOnce books before.book now.book asking hold output refused
-  pub waiting_same : now.waiting ≡ before.waiting
+  pub goes : RepliesAtOnce books (from_to step.was.book step.now.book) asking hold output refused
+  pub waiting_same : step.now.waiting ≡ step.was.waiting
 
-pub record IsPutOff (books : Change (List Entry)) (before now : Standing) (asking : Asking) (hold : Option Stage)
+pub record IsPutOff (books : Change (List Entry)) (step : Change Standing) (asking : Asking) (hold : Option Stage)
     (output : List ℕ) (refused : Bool) : Type 0 where
-  pub goes : IsHeldNow books before.book now.book asking hold
-  pub waits : now.waiting ≡ before.waiting ++ record { session = asking.session; txn = next_number before.book } ∷ []
+  pub goes : IsHeldNow books step.was.book step.now.book asking hold
+  pub waits : step.now.waiting
+      ≡ step.was.waiting ++ record { session = asking.session; txn = next_number step.was.book } ∷ []
   pub nothing : output ≡ []
   pub accepted : refused ≡ false
 
@@ -153,8 +153,8 @@ abbrev pub IsDone : Change (List Entry) → Standing → Standing → Action →
 IsDone books before now (action.Announce session) output refused = (now ≡ before) × (output ≡ session_line session.name)
     × (refused ≡ false)
 IsDone books before now (action.Run statement) output refused =
-    Replies books before now (asking_of statement) statement.hold output refused
-    ⊎ IsPutOff books before now (asking_of statement) statement.hold output refused
+    Replies books (from_to before now) (asking_of statement) statement.hold output refused
+    ⊎ IsPutOff books (from_to before now) (asking_of statement) statement.hold output refused
 IsDone books before now (action.Release session) output refused =
     ReleasesOne books before now session.name (waiting_in session.name before.waiting) output refused
 

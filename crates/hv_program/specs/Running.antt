@@ -53,9 +53,9 @@ pub record IsBehind (start : List Entry) (now : Standing) : Type 0 where
   pub later : AllByRecursion (IsLater start) now.waiting
 
 -- the action was done, and this is its reply
-pub record Acts (low high : ℕ) (before now : Standing) (action : Action) (reply : List ℕ)
+pub record Acts (faults : Change ℕ) (before now : Standing) (action : Action) (reply : List ℕ)
     (refused : Bool) : Type 0 where
-  pub grows : Grows low high before.book now.book
+  pub grows : Grows faults.was faults.now before.book now.book
   pub done : (start : List Entry) → IsBehind start before
       → IsDone (from_to start now.book) before now action reply refused
 
@@ -183,31 +183,31 @@ pub record CutsOff (faults : Change ℕ) (start book : List Entry) (actions : Li
   pub written : Moves (EndsWithin output reply) sinks.was sinks.now
 
 -- the run stopped in this action, for this reason
-pub record StopsIn (why : HouseFault) (told : Option Store) (faults : Change ℕ) (start book : List Entry)
+pub record StopsIn (why : HouseFault) (told : Option Store) (faults : Change ℕ) (books : Change (List Entry))
     (actions : List Action) (sinks : Change (Option (List ℕ))) : Type 0 where
   pub front : List Action
   pub action : Action
   pub behind : List Action
   pub actions_are : actions ≡ front ++ action ∷ behind
   pub before : Standing
-  pub grows : Grows faults.was faults.now start before.book
+  pub grows : Grows faults.was faults.now books.was before.book
   pub legal : IsLegal profile before.book
-  pub stops : Stops (Unit {0}) why told before action book
+  pub stops : Stops (Unit {0}) why told before action books.now
   pub output : List ℕ
   pub refused : Bool
-  pub are_done : AreDone (from_to start book) (beginning start) before front output refused
+  pub are_done : AreDone books (beginning books.was) before front output refused
   pub written : Moves (Gains output) sinks.was sinks.now
 
 abbrev pub HasAll : List Entry → Store → Type 0
 HasAll book store = Reads book store.journal × IsFaithful book store
 
 -- the reasons for which a run stops, and what each leaves
-abbrev pub Halts : Stop → Change ℕ → List Entry → List Entry → List Action → Change (Option (List ℕ)) → Option Store
+abbrev pub Halts : Stop → Change ℕ → Change (List Entry) → List Action → Change (Option (List ℕ)) → Option Store
     → Type 0
-Halts stop.Source faults start book actions sinks told = ⊥
-Halts stop.Sink faults start book actions sinks told = CutsOff faults start book actions sinks
-    × IsSomeAnd told (HasAll book)
-Halts stop.Store faults start book actions sinks told = StopsIn fault.Store told faults start book actions sinks
-    × IsSomeAnd told (OpensLater book)
-Halts stop.NoMemory faults start book actions sinks told = StopsIn fault.NoMemory told faults start book actions sinks
-    × IsSomeAnd told (OpensLater book)
+Halts stop.Source faults books actions sinks told = ⊥
+Halts stop.Sink faults books actions sinks told = CutsOff faults books.was books.now actions sinks
+    × IsSomeAnd told (HasAll books.now)
+Halts stop.Store faults books actions sinks told = StopsIn fault.Store told faults books actions sinks
+    × IsSomeAnd told (OpensLater books.now)
+Halts stop.NoMemory faults books actions sinks told = StopsIn fault.NoMemory told faults books actions sinks
+    × IsSomeAnd told (OpensLater books.now)

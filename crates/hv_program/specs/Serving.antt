@@ -69,13 +69,14 @@ pub record IsCut (line : List ℕ) (sink sink' : Option (List ℕ)) (faults faul
   pub wrote : Moves (GainsPart line) sink sink'
   pub cause : Rose faults faults'
 
-abbrev pub IsSaid : ℕ → List ℕ → Option (List ℕ) → Option (List ℕ) → ℕ → ℕ → ℕ → Type 0
-IsSaid wanted line sink sink' faults faults' status =
-    ((status ≡ wanted) × IsWritten line sink sink') ⊎ ((status ≡ 4) × IsCut line sink sink' faults faults')
+abbrev pub IsSaid : ℕ → List ℕ → Change (Option (List ℕ)) → Change ℕ → ℕ → Type 0
+IsSaid wanted line sinks faults status =
+    ((status ≡ wanted) × IsWritten line sinks.was sinks.now)
+    ⊎ ((status ≡ 4) × IsCut line sinks.was sinks.now faults.was faults.now)
 
-abbrev pub IsSaidOrNot : ℕ → List ℕ → Option (List ℕ) → Option (List ℕ) → ℕ → ℕ → ℕ → Type 0
-IsSaidOrNot wanted line sink sink' faults faults' status =
-    IsSaid wanted line sink sink' faults faults' status ⊎ ((status ≡ 7) × (sink' ≡ sink))
+abbrev pub IsSaidOrNot : ℕ → List ℕ → Change (Option (List ℕ)) → Change ℕ → ℕ → Type 0
+IsSaidOrNot wanted line sinks faults status =
+    IsSaid wanted line sinks faults status ⊎ ((status ≡ 7) × (sinks.now ≡ sinks.was))
 
 -- a journal that is bad, and one that is full, is refused, and the store is then as it was; its line was written, or a front of it
 pub record IsClosed (Gained : List ℕ → List ℕ → List ℕ → Type 0) (sink sink' : Option (List ℕ))

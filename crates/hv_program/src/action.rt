@@ -11,6 +11,7 @@ ghost use Rattle.hv_session.specs.Doing.{CanFinishTaken};
 ghost use Rattle.hv_session.specs.hv_beginning.specs.hv_steps.specs.Ending.{AddsOf};
 ghost use Rattle.hv_session.specs.Taking.{asked_of, IsKeptIn, IsTakenAs};
 ghost use Rattle.hv_session.specs.Ways.{StopsTaken};
+ghost use Rattle.hv_program.specs.Change.{from_to};
 ghost use Rattle.hv_program.specs.Doing.{asking_of, session_line};
 ghost use Rattle.hv_program.specs.Keeping.{standing_of, AreHeld, AreTrulyHeld, CanAllFinish};
 ghost use Rattle.hv_program.specs.Running.{Acts, IsFine, IsShort, Stops};
@@ -118,7 +119,7 @@ fn run_statement<D: Shelf + Drop>(
     ensures truly { IfOk result (λ _. AreTrulyHeld D.told house.new.house held.new.items) }
     ensures can { IfOk result (λ _. CanAllFinish D.told house.new held.new.items) }
     ensures acted { IsToldHouse D.told house.old.house → IfOk result (λ reply. Acts
-        (D.faults house.old.house.shelf) (D.faults house.new.house.shelf)
+        (from_to (D.faults house.old.house.shelf) (D.faults house.new.house.shelf))
         (standing_of house.old.house held.old.items) (standing_of house.new.house held.new.items)
         (action.Run statement.now) reply.text reply.refused) }
     ensures start { house.new.house.start ≡ house.old.house.start }
@@ -158,7 +159,7 @@ fn release<D: Shelf + Drop>(
     ensures truly { IfOk result (λ _. AreTrulyHeld D.told house.new.house held.new.items) }
     ensures can { IfOk result (λ _. CanAllFinish D.told house.new held.new.items) }
     ensures acted { IsToldHouse D.told house.old.house → IfOk result (λ reply. Acts
-        (D.faults house.old.house.shelf) (D.faults house.new.house.shelf)
+        (from_to (D.faults house.old.house.shelf) (D.faults house.new.house.shelf))
         (standing_of house.old.house held.old.items) (standing_of house.new.house held.new.items)
         (action.Release session.now) reply.text reply.refused) }
     ensures start { house.new.house.start ≡ house.old.house.start }
@@ -194,7 +195,7 @@ pub fn act<D: Shelf + Drop>(
     ensures truly { IfOk result (λ _. AreTrulyHeld D.told house.new.house held.new.items) }
     ensures can { IfOk result (λ _. CanAllFinish D.told house.new held.new.items) }
     ensures acted { IsToldHouse D.told house.old.house → IfOk result (λ reply. Acts
-        (D.faults house.old.house.shelf) (D.faults house.new.house.shelf)
+        (from_to (D.faults house.old.house.shelf) (D.faults house.new.house.shelf))
         (standing_of house.old.house held.old.items) (standing_of house.new.house held.new.items)
         action.now reply.text reply.refused) }
     ensures start { house.new.house.start ≡ house.old.house.start }

@@ -38,8 +38,8 @@ pub struct Ended<D> {
 fn said<O: Sink>(sink: &mut O, line: &[u8], status: u8) -> u8
     requires stopped { 2 ≤ status }
     ensures stopped { 2 ≤ result }
-    ensures said { IsSaid status line.now (O.written sink.old) (O.written sink.new)
-        (O.faults sink.old) (O.faults sink.new) result }
+    ensures said { IsSaid status line.now (from_to (O.written sink.old) (O.written sink.new))
+        (from_to (O.faults sink.old) (O.faults sink.new)) result }
     ensures heard { StaysTold (O.written sink.old) (O.written sink.new) }
 {
     match write_all(sink, line) {
@@ -51,8 +51,8 @@ fn said<O: Sink>(sink: &mut O, line: &[u8], status: u8) -> u8
 #[tactic(auto, unfolding(crate::specs::Lines::script_line))]
 fn refused_script<O: Sink>(alloc: Global, sink: &mut O, line: u64) -> u8
     ensures stopped { 2 ≤ result }
-    ensures said { IsSaidOrNot 8 (script_line line) (O.written sink.old) (O.written sink.new)
-        (O.faults sink.old) (O.faults sink.new) result }
+    ensures said { IsSaidOrNot 8 (script_line line) (from_to (O.written sink.old) (O.written sink.new))
+        (from_to (O.faults sink.old) (O.faults sink.new)) result }
     ensures heard { StaysTold (O.written sink.old) (O.written sink.new) }
 {
     match format!(in alloc; "hive: script refused at line {line}\n") {
@@ -64,8 +64,8 @@ fn refused_script<O: Sink>(alloc: Global, sink: &mut O, line: u64) -> u8
 #[tactic(auto, unfolding(crate::specs::Lines::journal_line))]
 fn bad_journal<O: Sink>(alloc: Global, sink: &mut O, at: u64) -> u8
     ensures stopped { 2 ≤ result }
-    ensures said { IsSaidOrNot 6 (journal_line at) (O.written sink.old) (O.written sink.new)
-        (O.faults sink.old) (O.faults sink.new) result }
+    ensures said { IsSaidOrNot 6 (journal_line at) (from_to (O.written sink.old) (O.written sink.new))
+        (from_to (O.faults sink.old) (O.faults sink.new)) result }
     ensures heard { StaysTold (O.written sink.old) (O.written sink.new) }
 {
     match format!(in alloc; "hive: bad journal at byte {at}\n") {
@@ -77,8 +77,8 @@ fn bad_journal<O: Sink>(alloc: Global, sink: &mut O, at: u64) -> u8
 #[tactic(auto, unfolding(crate::specs::Lines::full_line))]
 fn full_journal<O: Sink>(sink: &mut O) -> u8
     ensures stopped { 2 ≤ result }
-    ensures said { IsSaid 9 full_line (O.written sink.old) (O.written sink.new)
-        (O.faults sink.old) (O.faults sink.new) result }
+    ensures said { IsSaid 9 full_line (from_to (O.written sink.old) (O.written sink.new))
+        (from_to (O.faults sink.old) (O.faults sink.new)) result }
     ensures heard { StaysTold (O.written sink.old) (O.written sink.new) }
 {
     said(sink, b"hive: journal full\n", 9)

@@ -35,8 +35,8 @@ pub fn run<O: Sink, D: Shelf + Drop>(
         (entries_of house.new.house)
         actions.now (from_to (O.written sink.old) (O.written sink.new))) }
     ensures halts { IsToldHouse D.told house.old.house → IfErr result (λ stop. Halts stop
-        (from_to (D.faults house.old.house.shelf) (D.faults house.new.house.shelf)) (entries_of house.old.house)
-        (entries_of house.new.house)
+        (from_to (D.faults house.old.house.shelf) (D.faults house.new.house.shelf))
+        (from_to (entries_of house.old.house) (entries_of house.new.house))
         actions.now (from_to (O.written sink.old) (O.written sink.new)) (D.told house.new.house.shelf)) }
     ensures start { house.new.house.start ≡ house.old.house.start }
     ensures heard { StaysTold (O.written sink.old) (O.written sink.new) }

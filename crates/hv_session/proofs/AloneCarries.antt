@@ -41,7 +41,7 @@ use Rattle.hv_beginning.specs.hv_steps.specs.Phases.{Begins, BegunBy}
 use Rattle.hv_session.specs.Doing.{IsHold, up_to}
 use Rattle.hv_session.specs.Taking.{IsAtPlace, IsTrulyHeld, EndsBefore, HasAskedAtPoint}
 use Rattle.hv_session.specs.Alone.{HasGained}
-use Rattle.hv_session.specs.Ways.{ActsAlone, IsPart, IsOnWay, GoesInTime, StandsHeld, StandsTruly, GoesAlone, HasStarted, IsTurnedAway, IsAnswered, BeginsSo, IsTaking, IsCarriedIn, EndsThrough, IsCarriedAs, CarriesAlone}
+use Rattle.hv_session.specs.Ways.{ActsAlone, IsPart, IsOnWay, GoesInTime, StandsHeld, StandsTruly, on_course, GoesAlone, HasStarted, IsTurnedAway, IsAnswered, BeginsSo, IsTaking, IsCarriedIn, EndsThrough, IsCarriedAs, asked_up_to, CarriesAlone}
 use Rattle.hv_session.proofs.Orders.{at-its-hold, begun-in-order}
 use Rattle.hv_session.proofs.Passing.{HasPassed, part-behind, part-taking, passed-part, nothing-passed}
 use Rattle.hv_session.proofs.AloneBooks.{adds-alone}
@@ -186,14 +186,14 @@ module _ {D : Type 0} (told : D → Option Store) (faults : D → ℕ) (B : List
     pub started-carries : (way : Way) (hold : Option Stage) (c : ToldHouse D) (result : Result Carried HouseFault)
         → GainsSome faults B (faults_in faults a) (known own a) (known own' b) (Begins a b asking said (opened.Started way))
         → HasStarted (entries_of a.house) (entries_of b.house) asking said way
-        → (IsOnWay (entries_of b.house) way said → GoesAlone told faults way (up_to said hold) b.house c.house result)
-        → CarriesAlone told faults asking hold a.house c.house result
+        → (IsOnWay (entries_of b.house) way said → GoesAlone told faults (on_course way (up_to said hold)) b.house c.house result)
+        → CarriesAlone told faults (asked_up_to asking hold) a.house c.house result
     started-carries way hold c result begins started then =
         let v = begins.1 in
         let gained : HasGained faults a b v.added = adds-alone faults B acts.nothing own own' a b v.added v.adds in
         let under : IsUnderWay (entries_of b.house) asking way.txn.0 way.place said [] =
         begun-under (entries_of a.house) (entries_of b.house) asking said way.txn.0 way.place runs started.book started.txn_is started.place_is in
-        let goes : GoesAlone told faults way (up_to said hold) b.house c.house result = then (asking, under) in
+        let goes : GoesAlone told faults (on_course way (up_to said hold)) b.house c.house result = then (asking, under) in
         let passed : HasPassed told faults (next_number (entries_of a.house)) a.house b.house = record {
           whole = kept.whole running;
           start = gained.start;
@@ -229,7 +229,7 @@ module _ {D : Type 0} (told : D → Option Store) (faults : D → ℕ) (B : List
     pub full-carries : (hold : Option Stage) (entries : ℕ) → GainsSome faults B (faults_in faults a) (known own a) (known own' b)
         (Begins a b asking said (opened.Full entries))
         → BeginsSo (entries_of a.house) (entries_of b.house) asking said (opened.Full entries)
-        → CarriesAlone told faults asking hold a.house b.house (Ok (carried.Full entries))
+        → CarriesAlone told faults (asked_up_to asking hold) a.house b.house (Ok (carried.Full entries))
     full-carries hold entries begins so = record {
       taking = same-taking (Begins a b asking said (opened.Full entries)) (carried.Full entries) begins so.book;
       held = so;
@@ -238,7 +238,7 @@ module _ {D : Type 0} (told : D → Option Store) (faults : D → ℕ) (B : List
 
     pub unopened-carries : (hold : Option Stage) → GainsSome faults B (faults_in faults a) (known own a) (known own' b) (Begins a b asking said opened.NoMemory)
         → BeginsSo (entries_of a.house) (entries_of b.house) asking said opened.NoMemory
-        → CarriesAlone told faults asking hold a.house b.house (Ok carried.NoMemory)
+        → CarriesAlone told faults (asked_up_to asking hold) a.house b.house (Ok carried.NoMemory)
     unopened-carries hold begins so = record {
       taking = same-taking (Begins a b asking said opened.NoMemory) carried.NoMemory begins so;
       held = so;
@@ -249,7 +249,7 @@ module _ {D : Type 0} (told : D → Option Store) (faults : D → ℕ) (B : List
     pub away-carries : (hold : Option Stage) (found : Done) → IsHold hold
         → GainsSome faults B (faults_in faults a) (known own a) (known own' b) (Begins a b asking said (opened.Ended found))
         → BeginsSo (entries_of a.house) (entries_of b.house) asking said (opened.Ended found)
-        → CarriesAlone told faults asking hold a.house b.house (Ok (carried.Ended found))
+        → CarriesAlone told faults (asked_up_to asking hold) a.house b.house (Ok (carried.Ended found))
     away-carries hold found is begins so =
         let v = begins.1 in
         let gained : HasGained faults a b v.added = adds-alone faults B acts.nothing own own' a b v.added v.adds in

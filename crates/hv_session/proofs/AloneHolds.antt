@@ -45,7 +45,7 @@ use Rattle.hv_session.specs.Doing.{ReadiesTo, EndsFrom, IsUnrefused, StandsAt, c
 use Rattle.hv_session.specs.Doing as doing
 use Rattle.hv_session.specs.Taking.{HasAskedAtPoint, EndsEarly, AbortedAtOnce, AbortedBehind, EndsBefore, HoldsAt, IsAtPlace, IsHeld, IsTrulyHeld}
 use Rattle.hv_session.specs.Alone.{HasGained, IsAbortedAlone, SeesSo}
-use Rattle.hv_session.specs.Ways.{ActsAlone, IsPart, IsOnWay, IsOwnEnd, IsFinishedAs, EndsAlone, AddsInOrder, IsInTime, GoesInTime, StandsTruly, GoesAlone}
+use Rattle.hv_session.specs.Ways.{ActsAlone, IsPart, IsOnWay, IsOwnEnd, IsFinishedAs, EndsAlone, AddsInOrder, IsInTime, GoesInTime, StandsTruly, on_course, GoesAlone}
 use Rattle.hv_session.proofs.Orders.{early-uncommitted, aborted-in-order}
 use Rattle.hv_beginning.specs.hv_steps.proofs.Books.{all-map}
 use Rattle.hv_session.proofs.Takings.{unrefused, same-done, asked-truly}
@@ -273,7 +273,7 @@ module _ {D : Type 0} (told : D → Option Store) (faults : D → ℕ) (B : List
     pub ended-goes : (found : Done) → GoesToHold (among told faults B meanwhile) way (up_to said hold) (known own a) (known own' b) (Ok (carried.Ended found))
         → IsOwnEnd found
         → (IsToldHouse told a.house → IsFinishedAs (entries_of a.house) (entries_of b.house) way.txn.0 found)
-        → GoesAlone told faults way (up_to said hold) a.house b.house (Ok (carried.Ended found))
+        → GoesAlone told faults (on_course way (up_to said hold)) a.house b.house (Ok (carried.Ended found))
     ended-goes found held owned truly = record {
       part = holds-part (Ok (carried.Ended found)) held;
       goes = holds-in-time (carried.Ended found) held owned;
@@ -283,14 +283,14 @@ module _ {D : Type 0} (told : D → Option Store) (faults : D → ℕ) (B : List
 
     -- the run stopped
     pub halted-goes : (why : HouseFault) → GoesToHold (among told faults B meanwhile) way (up_to said hold) (known own a) (known own' b) (Err why)
-        → GoesAlone told faults way (up_to said hold) a.house b.house (Err why)
+        → GoesAlone told faults (on_course way (up_to said hold)) a.house b.house (Err why)
     halted-goes why held = record { part = holds-part (Err why) held; goes = tt; stands = λ asking under. tt; truly = λ is. tt }
 
     -- it is held
     kept-goes : (paused : Paused) → GoesToHold (among told faults B meanwhile) way (up_to said hold) (known own a) (known own' b) (Ok (carried.Kept paused))
         → ((asking : Asking) → IsUnderWay (entries_of a.house) asking way.txn.0 way.place said [] → IsHeld (entries_of b.house) asking paused)
         → (IsToldHouse told a.house → IsTrulyHeld (entries_of b.house) paused × AddsInOrder (entries_of a.house) (entries_of b.house))
-        → GoesAlone told faults way (up_to said hold) a.house b.house (Ok (carried.Kept paused))
+        → GoesAlone told faults (on_course way (up_to said hold)) a.house b.house (Ok (carried.Kept paused))
     kept-goes paused held stands truly = record {
       part = holds-part (Ok (carried.Kept paused)) held;
       goes = holds-in-time (carried.Kept paused) held tt;
@@ -300,7 +300,7 @@ module _ {D : Type 0} (told : D → Option Store) (faults : D → ℕ) (B : List
 
     as-carried : (result : Result Done HouseFault) → GoesToHold (among told faults B meanwhile) way (up_to said hold) (known own a) (known own' b)
         (carried_of result)
-        → EndsAlone told faults way.txn.0 a.house b.house result → GoesAlone told faults way (up_to said hold) a.house b.house (carried_of result)
+        → EndsAlone told faults way.txn.0 a.house b.house result → GoesAlone told faults (on_course way (up_to said hold)) a.house b.house (carried_of result)
     as-carried (Ok found) held ends = ended-goes found held ends.own ends.truly
     as-carried (Err why) held ends = halted-goes why held
 
@@ -308,9 +308,9 @@ module _ {D : Type 0} (told : D → Option Store) (faults : D → ℕ) (B : List
     pub ends-goes : (result : Result Done HouseFault) (other : Result Carried HouseFault) → other ≡ carried_of result
         → GoesToHold (among told faults B meanwhile) way (up_to said hold) (known own a) (known own' b) other
         → EndsAlone told faults way.txn.0 a.house b.house result
-        → GoesAlone told faults way (up_to said hold) a.house b.house other
+        → GoesAlone told faults (on_course way (up_to said hold)) a.house b.house other
     ends-goes result other is held ends =
-        subst (GoesAlone told faults way (up_to said hold) a.house b.house) (sym is)
+        subst (GoesAlone told faults (on_course way (up_to said hold)) a.house b.house) (sym is)
         (as-carried result (subst (GoesToHold (among told faults B meanwhile) way (up_to said hold) (known own a) (known own' b)) is held) ends)
 
   -- ---- what it sees
@@ -356,7 +356,7 @@ module _ {D : Type 0} (told : D → Option Store) (faults : D → ℕ) (B : List
     pub unseen-goes : (was : Asking) (hold : Option Stage) (found : Done) → WasOnWay (trail_in a) was way said → IsOpenHouse a
         → Goes (among told faults B meanwhile) (faults_in faults a) way.txn.0 (known own a) (known own' b) (Sees told b way said) (Ok (outcome.Ended found))
         → GoesToHold (among told faults B meanwhile) way (up_to said hold) (known own a) (known own' b) (Ok (carried.Ended found))
-        → GoesAlone told faults way (up_to said hold) a.house b.house (Ok (carried.Ended found))
+        → GoesAlone told faults (on_course way (up_to said hold)) a.house b.house (Ok (carried.Ended found))
     unseen-goes was hold found was_on running sees held =
         ended-goes own own' a b was way said hold was_on running kept found held (unseen-own found sees) (unseen-finished found sees)
 
@@ -367,13 +367,13 @@ module _ {D : Type 0} (told : D → Option Store) (faults : D → ℕ) (B : List
         → GoesToHold (among told faults B meanwhile) way (up_to said hold) (known own a) (known own'' c) result
         → (IsOnWay (entries_of b.house) way said → CanEnd (entries_of b.house) meaning
         → (IsToldHouse told b.house → meant (take way.place (entries_of b.house)) said ≡ Some meaning)
-        → GoesAlone told faults way (up_to said hold) b.house c.house result)
-        → GoesAlone told faults way (up_to said hold) a.house c.house result
+        → GoesAlone told faults (on_course way (up_to said hold)) b.house c.house result)
+        → GoesAlone told faults (on_course way (up_to said hold)) a.house c.house result
     seen-goes own'' c was hold meaning result was_on running kept_then sees held then =
         let so = seen-so (outcome.Means meaning) sees in
         let start : b.house.start ≡ a.house.start = seen-start (outcome.Means meaning) sees in
         let same : entries_of b.house ≡ entries_of a.house = so.0 in
-        let goes : GoesAlone told faults way (up_to said hold) b.house c.house result =
+        let goes : GoesAlone told faults (on_course way (up_to said hold)) b.house c.house result =
         then (on.0, subst (λ (book : List Entry). IsUnderWay book on.0 way.txn.0 way.place said []) (sym same) on.1) so.1
         (λ is. so.2 (told-stays told b.house a.house (sym start) is)) in
         record {
@@ -399,7 +399,7 @@ module _ {D : Type 0} (told : D → Option Store) (faults : D → ℕ) (B : List
 
     pub started-goes : GoesToHold (among told faults B meanwhile) way (up_to said (Some stage.Start)) (known own a) (known own a)
         (Ok (carried.Kept (record { way = way; tree = said; point = point.Started })))
-        → GoesAlone told faults way (up_to said (Some stage.Start)) a.house a.house
+        → GoesAlone told faults (on_course way (up_to said (Some stage.Start))) a.house a.house
         (Ok (carried.Kept (record { way = way; tree = said; point = point.Started })))
     started-goes held =
         kept-goes own own a a was way said (Some stage.Start) on running kept (record { way = way; tree = said; point = point.Started }) held started-held
@@ -414,7 +414,7 @@ module _ {D : Type 0} (told : D → Option Store) (faults : D → ℕ) (B : List
         → (IsToldHouse told a.house → meant (take way.place (entries_of a.house)) said ≡ Some meaning)
         → GoesToHold (among told faults B meanwhile) way (up_to said (Some stage.Read)) (known own a) (known own a)
         (Ok (carried.Kept (record { way = way; tree = said; point = point.Meant meaning })))
-        → GoesAlone told faults way (up_to said (Some stage.Read)) a.house a.house
+        → GoesAlone told faults (on_course way (up_to said (Some stage.Read))) a.house a.house
         (Ok (carried.Kept (record { way = way; tree = said; point = point.Meant meaning })))
     meant-goes meaning can not means held =
         kept-goes own own a a was way said (Some stage.Read) on running kept (record { way = way; tree = said; point = point.Meant meaning }) held
@@ -442,7 +442,7 @@ module _ {D : Type 0} (told : D → Option Store) (faults : D → ℕ) (B : List
         (PreparesAsked way.txn.0 b (IsAskIn b way said) meaning) (Ok (prepared.Ready ready))
         → GoesToHold (among told faults B meanwhile) way (up_to said (Some stage.Commit)) (known own a) (known own' b)
         (Ok (carried.Kept (record { way = way; tree = said; point = point.Ready ready })))
-        → GoesAlone told faults way (up_to said (Some stage.Commit)) a.house b.house
+        → GoesAlone told faults (on_course way (up_to said (Some stage.Commit))) a.house b.house
         (Ok (carried.Kept (record { way = way; tree = said; point = point.Ready ready })))
     ready-goes ready goes held =
         let so : (asking : Asking) → IsUnderWay (entries_of a.house) asking way.txn.0 way.place said [] → IsReadiedAlone asking said way meaning a b ready =
@@ -461,7 +461,7 @@ module _ {D : Type 0} (told : D → Option Store) (faults : D → ℕ) (B : List
         → Goes (among told faults B meanwhile) (faults_in faults a) way.txn.0 (known own a) (known own' b)
         (PreparesAsked way.txn.0 b (IsAskIn b way said) meaning) (Ok (prepared.Ended found))
         → GoesToHold (among told faults B meanwhile) way (up_to said (Some stage.Commit)) (known own a) (known own' b) (Ok (carried.Ended found))
-        → GoesAlone told faults way (up_to said (Some stage.Commit)) a.house b.house (Ok (carried.Ended found))
+        → GoesAlone told faults (on_course way (up_to said (Some stage.Commit))) a.house b.house (Ok (carried.Ended found))
     broken-goes found goes held =
         let ends =
         from-alone told faults B meanwhile acts own own' a b running kept way said meaning (Ok found) (record {

@@ -32,7 +32,7 @@ use Rattle.hv_beginning.specs.hv_steps.specs.Going.{faults_in, IsOpenHouse, Adds
 use Rattle.hv_beginning.specs.hv_steps.specs.Phases.{WasSoBetween, IsNextAt, HaltsBeginning}
 use Rattle.hv_session.specs.Doing.{reply_from, Takes, TakesText, IsSaidFor, WasNeverOpened, CanFinishSome, CanFinishTaken, up_to}
 use Rattle.hv_session.specs.Taking.{IsReplied, IsKeptIn, IsTakenAs}
-use Rattle.hv_session.specs.Ways.{IsUnopened, IsCarriedIn, IsCarriedAs, CarriesAlone, TakesAlone}
+use Rattle.hv_session.specs.Ways.{IsUnopened, IsCarriedIn, IsCarriedAs, asked_up_to, CarriesAlone, TakesAlone}
 use Rattle.hv_beginning.specs.hv_steps.proofs.Joining.{adds-none, gains-as}
 use Rattle.hv_session.proofs.Takings.{takes-can}
 use Rattle.hv_session.proofs.Passing.{still-part, part-taking, taking-ok}
@@ -184,15 +184,16 @@ module _ (before now : List Entry) (asking : Asking) (hold : Option Stage) where
 
 module _ {D : Type 0} (told : D → Option Store) (faults : D → ℕ) (asking : Asking) (hold : Option Stage) where
   -- it was carried so far
-  pub said-alone : (before now : House D) (found : Carried) (answer : Taken) → IsSaidFor found answer → CarriesAlone told faults asking hold before now (Ok found)
-      → TakesAlone told faults asking hold before now (Ok answer)
+  pub said-alone : (before now : House D) (found : Carried) (answer : Taken) → IsSaidFor found answer → CarriesAlone told faults (asked_up_to asking hold) before now (Ok found)
+      → TakesAlone told faults (asked_up_to asking hold) before now (Ok answer)
   said-alone before now found answer answers carries = record {
     taking = taking-ok told faults asking before now found answer carries.taking;
     held = said-held (entries_of before) (entries_of now) asking hold found answer answers carries.held;
     truly = λ is. said-truly (entries_of before) (entries_of now) asking hold found answer answers carries.held (carries.truly is);
   }
 
-  pub halted-alone : (before now : House D) (why : HouseFault) → CarriesAlone told faults asking hold before now (Err why) → TakesAlone told faults asking hold before now (Err why)
+  pub halted-alone : (before now : House D) (why : HouseFault) → CarriesAlone told faults (asked_up_to asking hold) before now (Err why)
+      → TakesAlone told faults (asked_up_to asking hold) before now (Err why)
   halted-alone before now why carries = record {
     taking = record {
       done = tt;
@@ -207,7 +208,7 @@ module _ {D : Type 0} (told : D → Option Store) (faults : D → ℕ) (asking :
 
   -- nothing was noted, and memory lacked for the reply
   lacks-alone : (before now : House D) → entries_of now ≡ entries_of before → now.start ≡ before.start → IsWhole told now → faults before.shelf ≤ faults now.shelf
-      → TakesAlone told faults asking hold before now (Err fault.NoMemory)
+      → TakesAlone told faults (asked_up_to asking hold) before now (Err fault.NoMemory)
   lacks-alone before now same start whole later = record {
     taking = record {
       done = tt;
@@ -243,15 +244,15 @@ module _ {D : Type 0} (told : D → Option Store) (faults : D → ℕ) (asking :
   never-noted before now (carried.Ended found) never is = absurd never
   never-noted before now (carried.Kept paused) never is = absurd never
 
-  pub unsaid-alone : (before now : House D) (found : Carried) → WasNeverOpened found → CarriesAlone told faults asking hold before now (Ok found)
-      → (result : Result Taken HouseFault) → IsErrAnd result (λ y. y ≡ fault.NoMemory) → TakesAlone told faults asking hold before now result
+  pub unsaid-alone : (before now : House D) (found : Carried) → WasNeverOpened found → CarriesAlone told faults (asked_up_to asking hold) before now (Ok found)
+      → (result : Result Taken HouseFault) → IsErrAnd result (λ y. y ≡ fault.NoMemory) → TakesAlone told faults (asked_up_to asking hold) before now result
   unsaid-alone before now found never carries result left =
-      so-behind (λ (r : Result Taken HouseFault). TakesAlone told faults asking hold before now r) result left
+      so-behind (λ (r : Result Taken HouseFault). TakesAlone told faults (asked_up_to asking hold) before now r) result left
       (lacks-alone before now (never-noted before now found never carries.held) carries.taking.start carries.taking.done.whole carries.taking.cause.later)
 
   -- its text was refused
   pub text-alone : (house : House D) (reply : Reply) → IsWhole told house → IsTextLine asking.text reply
-      → TakesAlone told faults asking hold house house (Ok (taken.Replied reply))
+      → TakesAlone told faults (asked_up_to asking hold) house house (Ok (taken.Replied reply))
   text-alone house reply whole line = record {
     taking =
         part-taking told faults asking house house (Ok (taken.Replied reply))
@@ -261,6 +262,6 @@ module _ {D : Type 0} (told : D → Option Store) (faults : D → ℕ) (asking :
   }
 
   pub text-lacks : (house : House D) → IsWhole told house → (result : Result Taken HouseFault) → IsErrAnd result (λ y. y ≡ fault.NoMemory)
-      → TakesAlone told faults asking hold house house result
+      → TakesAlone told faults (asked_up_to asking hold) house house result
   text-lacks house whole result left =
-      so-behind (λ (r : Result Taken HouseFault). TakesAlone told faults asking hold house house r) result left (lacks-alone house house refl refl whole (omega arith))
+      so-behind (λ (r : Result Taken HouseFault). TakesAlone told faults (asked_up_to asking hold) house house r) result left (lacks-alone house house refl refl whole (omega arith))

@@ -121,15 +121,23 @@ StandsTruly before now txn (carried.Kept paused) = IsTrulyHeld now paused × Add
 StandsTruly before now txn (carried.Full entries) = ⊥
 StandsTruly before now txn carried.NoMemory = ⊥
 
+-- a started statement, and its course
+pub record OnCourse : Type 0 where
+  pub way : Way
+  pub course : Course
+
+abbrev pub on_course : Way → Course → OnCourse
+on_course way course = record { way = way; course = course }
+
 -- all that is promised of a started statement that was to go on to its end or its hold
-pub record GoesAlone {D : Type 0} (told : D → Option Store) (faults : D → ℕ) (way : Way) (course : Course)
-    (before now : House D)
+pub record GoesAlone {D : Type 0} (told : D → Option Store) (faults : D → ℕ) (on : OnCourse) (before now : House D)
     (result : Result Carried HouseFault) : Type 0 where
-  pub part : IsPart told faults way.txn.0 before now result
-  pub goes : IfOk result (GoesInTime course.hold way.txn.0 (entries_of before) (entries_of now))
-  pub stands : (asking : Asking) → IsUnderWay (entries_of before) asking way.txn.0 way.place course.said []
+  pub part : IsPart told faults on.way.txn.0 before now result
+  pub goes : IfOk result (GoesInTime on.course.hold on.way.txn.0 (entries_of before) (entries_of now))
+  pub stands : (asking : Asking)
+      → IsUnderWay (entries_of before) asking on.way.txn.0 on.way.place on.course.said []
       → IfOk result (StandsHeld (entries_of now) asking)
-  pub truly : IsToldHouse told before → IfOk result (StandsTruly (entries_of before) (entries_of now) way.txn.0)
+  pub truly : IsToldHouse told before → IfOk result (StandsTruly (entries_of before) (entries_of now) on.way.txn.0)
 
 -- ---- its beginning
 
@@ -217,21 +225,29 @@ IsCarriedAs before now asking hold (carried.Kept paused) = IsKept before now ask
 IsCarriedAs before now asking hold (carried.Full entries) = Unit {0}
 IsCarriedAs before now asking hold carried.NoMemory = Unit {0}
 
+-- who asks for a statement, and where it is to be held
+pub record AskedUpTo : Type 0 where
+  pub asking : Asking
+  pub hold : Option Stage
+
+abbrev pub asked_up_to : Asking → Option Stage → AskedUpTo
+asked_up_to asking hold = record { asking = asking; hold = hold }
+
 -- all that is promised of a statement of a tree that is carried to its end or its hold
-pub record CarriesAlone {D : Type 0} (told : D → Option Store) (faults : D → ℕ) (asking : Asking) (hold : Option Stage)
-    (before now : House D)
-    (result : Result Carried HouseFault) : Type 0 where
-  pub taking : IsTaking told faults asking before now result
-  pub held : IfOk result (IsCarriedIn (entries_of before) (entries_of now) asking)
-  pub truly : IsToldHouse told before → IfOk result (IsCarriedAs (entries_of before) (entries_of now) asking hold)
+pub record CarriesAlone {D : Type 0} (told : D → Option Store) (faults : D → ℕ) (asked : AskedUpTo)
+    (before now : House D) (result : Result Carried HouseFault) : Type 0 where
+  pub taking : IsTaking told faults asked.asking before now result
+  pub held : IfOk result (IsCarriedIn (entries_of before) (entries_of now) asked.asking)
+  pub truly : IsToldHouse told before
+      → IfOk result (IsCarriedAs (entries_of before) (entries_of now) asked.asking asked.hold)
 
 -- and of one that is taken up
-pub record TakesAlone {D : Type 0} (told : D → Option Store) (faults : D → ℕ) (asking : Asking) (hold : Option Stage)
-    (before now : House D)
-    (result : Result Taken HouseFault) : Type 0 where
-  pub taking : IsTaking told faults asking before now result
-  pub held : IfOk result (IsKeptIn (entries_of before) (entries_of now) asking)
-  pub truly : IsToldHouse told before → IfOk result (IsTakenAs (entries_of before) (entries_of now) asking hold)
+pub record TakesAlone {D : Type 0} (told : D → Option Store) (faults : D → ℕ) (asked : AskedUpTo)
+    (before now : House D) (result : Result Taken HouseFault) : Type 0 where
+  pub taking : IsTaking told faults asked.asking before now result
+  pub held : IfOk result (IsKeptIn (entries_of before) (entries_of now) asked.asking)
+  pub truly : IsToldHouse told before
+      → IfOk result (IsTakenAs (entries_of before) (entries_of now) asked.asking asked.hold)
 
 -- ---- what the parts over an actor promise then
 

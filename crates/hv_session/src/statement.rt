@@ -5,7 +5,7 @@ ghost use Rattle.hv_beginning.specs.hv_steps.specs.Going.{IsOpenHouse, faults_in
 ghost use Rattle.hv_beginning.specs.hv_steps.specs.Phases.{HaltsBeginning};
 ghost use Rattle.hv_session.specs.Doing.{IsHold, IsSaidFor, WasNeverOpened, TakesText};
 ghost use Rattle.hv_session.specs.Taking.{asked_of};
-ghost use Rattle.hv_session.specs.Ways.{ActsAlone, TakesAlone};
+ghost use Rattle.hv_session.specs.Ways.{ActsAlone, asked_up_to, TakesAlone};
 ghost use Rattle.hv_actor.specs.Acting.{among, known};
 
 use crate::asking::{Asking, How};
@@ -58,8 +58,8 @@ fn take_read<D: Shelf + Drop, W: Actor<D, ToldHouse<D>>>(
     ensures halts { IfErr result (HaltsBeginning (among D.told D.faults W.between W.meanwhile) (asked_of asking)
         (known (W.own actor.old) (W.house actor.old)) (known (W.own actor.new) (W.house actor.new))) }
     ensures alone { ActsAlone W.between W.meanwhile
-        → TakesAlone D.told D.faults (asked_of asking) asking.hold (W.house actor.old).house (W.house actor.new).house
-        result }
+        → TakesAlone D.told D.faults (asked_up_to (asked_of asking) asking.hold) (W.house actor.old).house
+        (W.house actor.new).house result }
 {
     let Asking {
         session,
@@ -95,8 +95,8 @@ fn take_statement<D: Shelf + Drop, W: Actor<D, ToldHouse<D>>>(
     ensures halts { IfErr result (HaltsBeginning (among D.told D.faults W.between W.meanwhile) (asked_of asking)
         (known (W.own actor.old) (W.house actor.old)) (known (W.own actor.new) (W.house actor.new))) }
     ensures alone { ActsAlone W.between W.meanwhile
-        → TakesAlone D.told D.faults (asked_of asking) asking.hold (W.house actor.old).house (W.house actor.new).house
-        result }
+        → TakesAlone D.told D.faults (asked_up_to (asked_of asking) asking.hold) (W.house actor.old).house
+        (W.house actor.new).house result }
 {
     match read_statement(alloc, &asking.text) {
         Ok(kept) => take_read(alloc, actor, asking, kept, tree),
@@ -133,8 +133,8 @@ pub fn take_up<D: Shelf + Drop, W: Actor<D, ToldHouse<D>>>(
     ensures halts { IfErr result (HaltsBeginning (among D.told D.faults W.between W.meanwhile) (asked_of asking)
         (known (W.own actor.old) (W.house actor.old)) (known (W.own actor.new) (W.house actor.new))) }
     ensures alone { ActsAlone W.between W.meanwhile
-        → TakesAlone D.told D.faults (asked_of asking) asking.hold (W.house actor.old).house (W.house actor.new).house
-        result }
+        → TakesAlone D.told D.faults (asked_up_to (asked_of asking) asking.hold) (W.house actor.old).house
+        (W.house actor.new).house result }
 {
     match read_statement(alloc, &asking.text) {
         Ok(tree) => take_statement(alloc, actor, asking, tree),

@@ -9,7 +9,7 @@ ghost use Rattle.hv_beginning.specs.hv_steps.specs.hv_table_reader.specs.hv_acts
 ghost use Rattle.hv_beginning.specs.hv_steps.specs.hv_table_reader.specs.hv_acts.specs.Told.{trail_in};
 ghost use Rattle.hv_beginning.specs.hv_steps.specs.Ending.{CanEnd};
 ghost use Rattle.hv_session.specs.Taking.{IsHeldBySome, IsTrulyHeld};
-ghost use Rattle.hv_session.specs.Ways.{ActsAlone, IsOnWay, EndsAlone, GoesAlone, CarriesAlone};
+ghost use Rattle.hv_session.specs.Ways.{ActsAlone, IsOnWay, EndsAlone, on_course, GoesAlone, asked_up_to, CarriesAlone};
 ghost use Rattle.hv_beginning.specs.hv_steps.specs.Going.{IsOpenHouse, faults_in, Goes, GainsSome, WasOnWay};
 ghost use Rattle.hv_beginning.specs.hv_steps.specs.Phases.{ComesTo, AnswersTruly, Begins, HaltsBeginning};
 ghost use Rattle.hv_session.specs.Doing.{EndsFrom, EndsAs, IsHold, is_refused, carried_of, CanFinish, Finishes, Takes, GoesToHold, GoesTaking, WasStarted, up_to};
@@ -123,7 +123,7 @@ fn keep_meant<D: Shelf + Drop, W: Actor<D, ToldHouse<D>>>(
         → CanEnd (entries_of (W.house actor.old).house) meaning
         → (IsToldHouse D.told (W.house actor.old).house
         → meant (take way.place (entries_of (W.house actor.old).house)) tree ≡ Some meaning)
-        → GoesAlone D.told D.faults way (up_to tree (Some stage.Read)) (W.house actor.old).house
+        → GoesAlone D.told D.faults (on_course way (up_to tree (Some stage.Read))) (W.house actor.old).house
         (W.house actor.new).house result }
 {
     if is_refused(&meaning) {
@@ -153,7 +153,7 @@ fn hold_read<D: Shelf + Drop, W: Actor<D, ToldHouse<D>>>(
     ensures goes { GoesToHold (among D.told D.faults W.between W.meanwhile) way (up_to tree (Some stage.Read))
         (known (W.own actor.old) (W.house actor.old)) (known (W.own actor.new) (W.house actor.new)) result }
     ensures alone { ActsAlone W.between W.meanwhile → IsOnWay (entries_of (W.house actor.old).house) way tree
-        → GoesAlone D.told D.faults way (up_to tree (Some stage.Read)) (W.house actor.old).house
+        → GoesAlone D.told D.faults (on_course way (up_to tree (Some stage.Read))) (W.house actor.old).house
         (W.house actor.new).house result }
 {
     match see(alloc, actor, way, &tree) {
@@ -188,7 +188,7 @@ fn keep_ready<D: Shelf + Drop, W: Actor<D, ToldHouse<D>>>(
         → CanEnd (entries_of (W.house actor.old).house) meaning
         → (IsToldHouse D.told (W.house actor.old).house
         → meant (take way.place (entries_of (W.house actor.old).house)) tree ≡ Some meaning)
-        → GoesAlone D.told D.faults way (up_to tree (Some stage.Commit)) (W.house actor.old).house
+        → GoesAlone D.told D.faults (on_course way (up_to tree (Some stage.Commit))) (W.house actor.old).house
         (W.house actor.new).house result }
 {
     match get_ready(alloc, actor, way, &tree, meaning) {
@@ -222,7 +222,7 @@ fn hold_commit<D: Shelf + Drop, W: Actor<D, ToldHouse<D>>>(
     ensures goes { GoesToHold (among D.told D.faults W.between W.meanwhile) way (up_to tree (Some stage.Commit))
         (known (W.own actor.old) (W.house actor.old)) (known (W.own actor.new) (W.house actor.new)) result }
     ensures alone { ActsAlone W.between W.meanwhile → IsOnWay (entries_of (W.house actor.old).house) way tree
-        → GoesAlone D.told D.faults way (up_to tree (Some stage.Commit)) (W.house actor.old).house
+        → GoesAlone D.told D.faults (on_course way (up_to tree (Some stage.Commit))) (W.house actor.old).house
         (W.house actor.new).house result }
 {
     match see(alloc, actor, way, &tree) {
@@ -252,7 +252,8 @@ fn go_unheld<D: Shelf + Drop, W: Actor<D, ToldHouse<D>>>(
     ensures goes { GoesToHold (among D.told D.faults W.between W.meanwhile) way (up_to tree (None))
         (known (W.own actor.old) (W.house actor.old)) (known (W.own actor.new) (W.house actor.new)) result }
     ensures alone { ActsAlone W.between W.meanwhile → IsOnWay (entries_of (W.house actor.old).house) way tree
-        → GoesAlone D.told D.faults way (up_to tree None) (W.house actor.old).house (W.house actor.new).house result }
+        → GoesAlone D.told D.faults (on_course way (up_to tree None)) (W.house actor.old).house
+        (W.house actor.new).house result }
 {
     let found = go_to_end(alloc, actor, way, &tree);
     discard(tree);
@@ -275,8 +276,8 @@ fn hold_at<D: Shelf + Drop, W: Actor<D, ToldHouse<D>>>(
     ensures goes { GoesToHold (among D.told D.faults W.between W.meanwhile) way (up_to tree (Some at))
         (known (W.own actor.old) (W.house actor.old)) (known (W.own actor.new) (W.house actor.new)) result }
     ensures alone { ActsAlone W.between W.meanwhile → IsOnWay (entries_of (W.house actor.old).house) way tree
-        → GoesAlone D.told D.faults way (up_to tree (Some at)) (W.house actor.old).house (W.house actor.new).house
-        result }
+        → GoesAlone D.told D.faults (on_course way (up_to tree (Some at))) (W.house actor.old).house
+        (W.house actor.new).house result }
 {
     match at {
         Stage::Start => Ok(Carried::Kept(Paused {
@@ -307,7 +308,8 @@ fn go<D: Shelf + Drop, W: Actor<D, ToldHouse<D>>>(
     ensures goes { GoesToHold (among D.told D.faults W.between W.meanwhile) way (up_to tree hold)
         (known (W.own actor.old) (W.house actor.old)) (known (W.own actor.new) (W.house actor.new)) result }
     ensures alone { ActsAlone W.between W.meanwhile → IsOnWay (entries_of (W.house actor.old).house) way tree
-        → GoesAlone D.told D.faults way (up_to tree hold) (W.house actor.old).house (W.house actor.new).house result }
+        → GoesAlone D.told D.faults (on_course way (up_to tree hold)) (W.house actor.old).house
+        (W.house actor.new).house result }
 {
     match hold {
         None => go_unheld(alloc, actor, way, tree),
@@ -338,7 +340,7 @@ fn go_opened<D: Shelf + Drop, W: Actor<D, ToldHouse<D>>>(
         → IsOpenHouse first → IsWhole D.told first.house
         → GainsSome D.faults W.between (faults_in D.faults first) (known own first)
         (known (W.own actor.old) (W.house actor.old)) (Begins first (W.house actor.old) asking tree opened)
-        → CarriesAlone D.told D.faults asking hold first.house (W.house actor.new).house result }
+        → CarriesAlone D.told D.faults (asked_up_to asking hold) first.house (W.house actor.new).house result }
 {
     match opened {
         Opened::Started(way) => go(alloc, actor, way, tree, hold),
@@ -388,7 +390,7 @@ pub fn carry<D: Shelf + Drop, W: Actor<D, ToldHouse<D>>>(
         (record { session = session; number = number; text = text })
         (known (W.own actor.old) (W.house actor.old)) (known (W.own actor.new) (W.house actor.new))) }
     ensures alone { ActsAlone W.between W.meanwhile → CarriesAlone D.told D.faults
-        (record { session = session; number = number; text = text }) hold
+        (asked_up_to (record { session = session; number = number; text = text }) hold)
         (W.house actor.old).house (W.house actor.new).house result }
 {
     match begin(alloc, actor, session, number, text, kept) {

@@ -49,7 +49,7 @@ use Rattle.hv_steps.specs.declared.reply.Prepared.TheVariants as prepared
 use Rattle.hv_steps.specs.Going.{faults_in, IsOpenHouse, AddsOwn, Goes}
 use Rattle.hv_steps.specs.Leaving.{EndsAct}
 use Rattle.hv_steps.specs.Phases.{AbortsFor, IsAbortFor, IsReadyAs, AsksJob, PreparesTo, EndsEarlyFor, IsWriteFault, Prepares, NoCause, CanConclude, CanConcludeIn}
-use Rattle.hv_steps.specs.Preparing.{ended, ended_by, failed_count, aborted_reply, EndsFor, MakesReady, IsFaultOf, HasItsId, HasJob, IsChangePut, Writes}
+use Rattle.hv_steps.specs.Preparing.{ended, ended_by, failed_count, aborted_reply, EndsFor, end_said, MakesReady, IsFaultOf, HasItsId, HasJob, IsChangePut, change_under, Writes}
 use Rattle.hv_steps.proofs.Joining.{adds-none, adds-front, told-earlier, gains-as, goes-behind, goes-on}
 use Rattle.hv_steps.proofs.Ids.{MeansAt, meant-lasts, given-lasts, table-lasts}
 
@@ -189,7 +189,7 @@ module _ {D : Type 0} (told : D → Option Store) (faults : D → ℕ) (B : List
 
   -- nothing was done
   pub goes-ready : (low : ℕ) (own : List ℕ) (a : ToldHouse D) (last : End) (text : List ℕ) (ready : Ready) → IsOpenHouse a → ready.end ≡ last → ready.text ≡ text
-      → Goes (among told faults B meanwhile) low txn (known own a) (known own a) (MakesReady txn a a last text) (Ok (prepared.Ready ready))
+      → Goes (among told faults B meanwhile) low txn (known own a) (known own a) (MakesReady txn a a (end_said last text)) (Ok (prepared.Ready ready))
   goes-ready low own a last text ready running end_is text_is = record {
     done = record { added = []; adds = adds-none faults B rows own a; of_it = tt; counts = tt; is = (refl, (end_is, text_is), refl); running = running };
     halted = tt;
@@ -215,20 +215,20 @@ module _ {D : Type 0} (told : D → Option Store) (faults : D → ℕ) (B : List
   -- memory lacked for its text
   pub lacking-ready : (low : ℕ) (own own' : List ℕ) (a b first : ToldHouse D) (last : End) (text : List ℕ) (result : Result Prepared HouseFault)
       → Goes (among told faults B meanwhile) low txn (known own a) (known own' b) (EndsFor txn b (λ why. why ≡ cause.Memory)) result
-      → Goes (among told faults B meanwhile) low txn (known own a) (known own' b) (MakesReady txn first b last text) result
+      → Goes (among told faults B meanwhile) low txn (known own a) (known own' b) (MakesReady txn first b (end_said last text)) result
   lacking-ready low own own' a b first last text result goes =
-      goes-as low own own' a b (EndsFor txn b (λ why. why ≡ cause.Memory)) (MakesReady txn first b last text) result by goes
+      goes-as low own own' a b (EndsFor txn b (λ why. why ≡ cause.Memory)) (MakesReady txn first b (end_said last text)) result by goes
     where
-      by : (found : Prepared) (added : List Entry) → EndsFor txn b (λ why. why ≡ cause.Memory) found added → MakesReady txn first b last text found added
+      by : (found : Prepared) (added : List Entry) → EndsFor txn b (λ why. why ≡ cause.Memory) found added → MakesReady txn first b (end_said last text) found added
       by (prepared.Ready ready) added ends = absurd ends
       by (prepared.Ended found) added ends = aborts-more txn b [] (λ why. why ≡ cause.Memory) NoCause (λ why is. inr is) found added ends
 
   -- it is ready to touch nothing
   pub made-goes : (low : ℕ) (own own' : List ℕ) (a b : ToldHouse D) (last : End) (text : List ℕ) (result : Result Prepared HouseFault) → last ≡ idle_end
-      → Goes (among told faults B meanwhile) low txn (known own a) (known own' b) (MakesReady txn a b last text) result
-      → Goes (among told faults B meanwhile) low txn (known own a) (known own' b) (MakesReady txn a b idle_end text) result
+      → Goes (among told faults B meanwhile) low txn (known own a) (known own' b) (MakesReady txn a b (end_said last text)) result
+      → Goes (among told faults B meanwhile) low txn (known own a) (known own' b) (MakesReady txn a b (end_said idle_end text)) result
   made-goes low own own' a b last text result e goes =
-      subst (λ (end_ : End). Goes (among told faults B meanwhile) low txn (known own a) (known own' b) (MakesReady txn a b end_ text) result) e goes
+      subst (λ (end_ : End). Goes (among told faults B meanwhile) low txn (known own a) (known own' b) (MakesReady txn a b (end_said end_ text)) result) e goes
 
   -- ---- it ends so: it can be concluded
 
@@ -259,17 +259,17 @@ module _ {D : Type 0} (told : D → Option Store) (faults : D → ℕ) (B : List
 
   pub made-prepares : (low : ℕ) (own own' : List ℕ) (a b : ToldHouse D) (meaning : Meaning) (last : End) (text : List ℕ) (result : Result Prepared HouseFault)
       → ((ready : Ready) → IsReadyAs ready last text → PreparesTo txn meaning ready [])
-      → Goes (among told faults B meanwhile) low txn (known own a) (known own' b) (MakesReady txn a b last text) result
+      → Goes (among told faults B meanwhile) low txn (known own a) (known own' b) (MakesReady txn a b (end_said last text)) result
       → Goes (among told faults B meanwhile) low txn (known own a) (known own' b) (Prepares txn b meaning) result
   made-prepares low own own' a b meaning last text result makes goes =
-      goes-as low own own' a b (MakesReady txn a b last text) (Prepares txn b meaning) result by goes
+      goes-as low own own' a b (MakesReady txn a b (end_said last text)) (Prepares txn b meaning) result by goes
     where
-      by : (found : Prepared) (added : List Entry) → MakesReady txn a b last text found added → Prepares txn b meaning found added
+      by : (found : Prepared) (added : List Entry) → MakesReady txn a b (end_said last text) found added → Prepares txn b meaning found added
       by (prepared.Ready ready) added is = subst (PreparesTo txn meaning ready) (sym is.0) (makes ready is.1)
       by (prepared.Ended found) added ends = inl (aborts-more txn b [] NoCause (EndsEarlyFor meaning) (λ why never. absurd never) found added ends)
 
   pub made-can : (low : ℕ) (own own' : List ℕ) (a b : ToldHouse D) (way : Way) (last : End) (text : List ℕ) (result : Result Prepared HouseFault)
-      → CanConclude told a way last text → Goes (among told faults B meanwhile) low txn (known own a) (known own' b) (MakesReady txn a b last text) result
+      → CanConclude told a way last text → Goes (among told faults B meanwhile) low txn (known own a) (known own' b) (MakesReady txn a b (end_said last text)) result
       → IfOk result (CanConcludeIn told b way)
   made-can low own own' a b way last text (Ok (prepared.Ready ready)) can goes =
       let is = goes.done.is in
@@ -282,14 +282,14 @@ module _ {D : Type 0} (told : D → Option Store) (faults : D → ℕ) (B : List
   -- without a touch, of what it means
   pub idle-prepares : (low : ℕ) (own own' : List ℕ) (a b : ToldHouse D) (m meaning : Meaning) (last : End) (text : List ℕ) (result : Result Prepared HouseFault) → m ≡ meaning
       → last ≡ idle_end → ((ready : Ready) → IsReadyAs ready idle_end text → PreparesTo txn meaning ready [])
-      → Goes (among told faults B meanwhile) low txn (known own a) (known own' b) (MakesReady txn a b last text) result
+      → Goes (among told faults B meanwhile) low txn (known own a) (known own' b) (MakesReady txn a b (end_said last text)) result
       → Goes (among told faults B meanwhile) low txn (known own a) (known own' b) (Prepares txn b m) result
   idle-prepares low own own' a b m meaning last text result same e makes goes =
       subst (λ (x : Meaning). Goes (among told faults B meanwhile) low txn (known own a) (known own' b) (Prepares txn b x) result) (sym same)
       (made-prepares low own own' a b meaning idle_end text result makes (made-goes low own own' a b last text result e goes))
 
   pub idle-concludes : (low : ℕ) (own own' : List ℕ) (a b : ToldHouse D) (way : Way) (last : End) (text : List ℕ) (result : Result Prepared HouseFault) → last ≡ idle_end
-      → CanConclude told a way idle_end text → Goes (among told faults B meanwhile) low txn (known own a) (known own' b) (MakesReady txn a b last text) result
+      → CanConclude told a way idle_end text → Goes (among told faults B meanwhile) low txn (known own a) (known own' b) (MakesReady txn a b (end_said last text)) result
       → IfOk result (CanConcludeIn told b way)
   idle-concludes low own own' a b way last text result e can goes =
       made-can low own own' a b way idle_end text result can (made-goes low own own' a b last text result e goes)
@@ -308,11 +308,11 @@ module _ {D : Type 0} (told : D → Option Store) (faults : D → ℕ) (B : List
   pub broken-writes : (low low' : ℕ) (own own' own'' : List ℕ) (a b c : ToldHouse D) (info : TableInfo) (effect : Effect) (write : ℕ) (why : ActFault) (result : Result Prepared HouseFault)
       → low ≤ low' → AddsOwn faults B txn (known own a) (known own' b) []
       → Goes (among told faults B meanwhile) low' txn (known own' b) (known own'' c) (EndsFor txn c (IsFaultOf why)) result
-      → Goes (among told faults B meanwhile) low txn (known own a) (known own'' c) (Writes txn c info effect write) result
+      → Goes (among told faults B meanwhile) low txn (known own a) (known own'' c) (Writes txn c (change_under info effect write)) result
   broken-writes low low' own own' own'' a b c info effect write why result down adds goes =
-      goes-on faults B rows told meanwhile low low' txn own own' own'' a b c (EndsFor txn c (IsFaultOf why)) (Writes txn c info effect write) result down adds by goes
+      goes-on faults B rows told meanwhile low low' txn own own' own'' a b c (EndsFor txn c (IsFaultOf why)) (Writes txn c (change_under info effect write)) result down adds by goes
     where
-      by : (found : Prepared) (added : List Entry) → EndsFor txn c (IsFaultOf why) found added → Writes txn c info effect write found added
+      by : (found : Prepared) (added : List Entry) → EndsFor txn c (IsFaultOf why) found added → Writes txn c (change_under info effect write) found added
       by (prepared.Ready ready) added ends = absurd ends
       by (prepared.Ended found) added ends = aborts-more txn c [] (IsFaultOf why) IsWriteFault (λ of is. inl (fault-writes why of is)) found added ends
 
@@ -320,9 +320,9 @@ module _ {D : Type 0} (told : D → Option Store) (faults : D → ℕ) (B : List
       → AddsOwn faults B txn (known own a) (known own' b) [] → IsOpenHouse b → IsChangePut info effect write put → wrote ≡ touches_of info effect
       → text ≡ counts_line (touches_of info effect)
       → found ≡ prepared.Ready (record { end = end.Commit wrote info.shape.name put; text = text })
-      → Goes (among told faults B meanwhile) low txn (known own a) (known own' b) (Writes txn b info effect write) (Ok found)
+      → Goes (among told faults B meanwhile) low txn (known own a) (known own' b) (Writes txn b (change_under info effect write)) (Ok found)
   put-writes low own own' a b info effect write wrote text put found adds running puts are says is =
-      subst (λ (f : Prepared). Goes (among told faults B meanwhile) low txn (known own a) (known own' b) (Writes txn b info effect write) (Ok f)) (sym is)
+      subst (λ (f : Prepared). Goes (among told faults B meanwhile) low txn (known own a) (known own' b) (Writes txn b (change_under info effect write)) (Ok f)) (sym is)
       (record {
         done = record {
           added = [];
@@ -365,13 +365,13 @@ module _ {D : Type 0} (told : D → Option Store) (faults : D → ℕ) (B : List
   -- its files are put behind it
   pub given-prepares : (low low' : ℕ) (own own' own'' : List ℕ) (a b c : ToldHouse D) (info : TableInfo) (effect : Effect) (write : WriteId) (result : Result Prepared HouseFault)
       → low ≤ low' → 0 < changes_in effect → AddsOwn faults B txn (known own a) (known own' b) (giving txn info.table write ∷ [])
-      → Goes (among told faults B meanwhile) low' txn (known own' b) (known own'' c) (Writes txn c info effect write.0) result
+      → Goes (among told faults B meanwhile) low' txn (known own' b) (known own'' c) (Writes txn c (change_under info effect write.0)) result
       → Goes (among told faults B meanwhile) low txn (known own a) (known own'' c) (Prepares txn c (Change info effect)) result
   given-prepares low low' own own' own'' a b c info effect write result down some adds goes =
-      goes-behind faults B rows told meanwhile low low' txn own own' own'' a b c (giving txn info.table write ∷ []) (Writes txn c info effect write.0)
+      goes-behind faults B rows told meanwhile low low' txn own own' own'' a b c (giving txn info.table write ∷ []) (Writes txn c (change_under info effect write.0))
       (Prepares txn c (Change info effect)) result down adds (refl, tt) (tt, tt) by goes
     where
-      by : (found : Prepared) (more : List Entry) → Writes txn c info effect write.0 found more → Prepares txn c (Change info effect) found (giving txn info.table write ∷ more)
+      by : (found : Prepared) (more : List Entry) → Writes txn c (change_under info effect write.0) found more → Prepares txn c (Change info effect) found (giving txn info.table write ∷ more)
       by (prepared.Ready ready) more is = inr (write, is.1.0, ap (λ (xs : List Entry). giving txn info.table write ∷ xs) is.0, some, is.1.1)
       by (prepared.Ended found) more is =
           inr (giving txn info.table write ∷ [], (write, some, refl), aborts-behind txn c (giving txn info.table write ∷ []) IsWriteFault found more is)
@@ -407,13 +407,13 @@ module _ {D : Type 0} (told : D → Option Store) (faults : D → ℕ) (B : List
   pub job-prepares : (low low' : ℕ) (own own' own'' : List ℕ) (a b c : ToldHouse D) (table : TableId) (partition : List ℕ) (kind : CompactionKind) (first : List Entry)
       (last : End) (result : Result Prepared HouseFault) → low ≤ low' → AsksJob txn table partition kind first
       → AddsOwn faults B txn (known own a) (known own' b) first → last ≡ idle_end
-      → Goes (among told faults B meanwhile) low' txn (known own' b) (known own'' c) (MakesReady txn b c last ok_line) result
+      → Goes (among told faults B meanwhile) low' txn (known own' b) (known own'' c) (MakesReady txn b c (end_said last ok_line)) result
       → Goes (among told faults B meanwhile) low txn (known own a) (known own'' c) (Prepares txn c (Ask table partition kind)) result
   job-prepares low low' own own' own'' a b c table partition kind first last result down asks adds e goes =
-      goes-behind faults B rows told meanwhile low low' txn own own' own'' a b c first (MakesReady txn b c last ok_line)
+      goes-behind faults B rows told meanwhile low low' txn own own' own'' a b c first (MakesReady txn b c (end_said last ok_line))
       (Prepares txn c (Ask table partition kind)) result down adds (job-of txn table partition kind first asks) (job-unended txn table partition kind first asks) by goes
     where
-      by : (found : Prepared) (more : List Entry) → MakesReady txn b c last ok_line found more → Prepares txn c (Ask table partition kind) found (first ++ more)
+      by : (found : Prepared) (more : List Entry) → MakesReady txn b c (end_said last ok_line) found more → Prepares txn c (Ask table partition kind) found (first ++ more)
       by (prepared.Ready ready) more is = (
         subst (AsksJob txn table partition kind) (sym (ap (λ (xs : List Entry). first ++ xs) is.0 ∙ append-nil first)) asks,
         (is.1.0 ∙ e, is.1.1),

@@ -79,11 +79,19 @@ abbrev pub EndsFor : {D : Type 0} → ℕ → ToldHouse D → (Cause → Type 0)
 EndsFor txn now Causes (prepared.Ready ready) added = ⊥
 EndsFor txn now Causes (prepared.Ended found) added = AbortsFor txn now [] Causes found added
 
+-- how one is to end, and its reply then
+pub record EndSaid : Type 0 where
+  pub last : End
+  pub text : List ℕ
+
+abbrev pub end_said : End → List ℕ → EndSaid
+end_said last text = record { last = last; text = text }
+
 -- it is ready to end so, and nothing was done to the house; or memory lacked
-abbrev pub MakesReady : {D : Type 0} → ℕ → ToldHouse D → ToldHouse D → End → List ℕ → Prepared → List Entry → Type 0
-MakesReady txn before now last text (prepared.Ready ready) added = (added ≡ []) × IsReadyAs ready last text
+abbrev pub MakesReady : {D : Type 0} → ℕ → ToldHouse D → ToldHouse D → EndSaid → Prepared → List Entry → Type 0
+MakesReady txn before now wanted (prepared.Ready ready) added = (added ≡ []) × IsReadyAs ready wanted.last wanted.text
     × (now ≡ before)
-MakesReady txn before now last text (prepared.Ended found) added = AbortsFor txn now [] NoCause found added
+MakesReady txn before now wanted (prepared.Ended found) added = AbortsFor txn now [] NoCause found added
 
 -- ---- a change of rows
 
@@ -235,8 +243,17 @@ pub record IsChangePut (info : TableInfo) (effect : Effect) (write : ℕ) (put :
   pub held : AreHeld effect.inserts
   pub encoded : AllByRecursion HasFile (files_of info.shape write 0 effect)
 
+-- a change of a table's rows, under a write id
+pub record ChangeUnder : Type 0 where
+  pub info : TableInfo
+  pub effect : Effect
+  pub write : ℕ
+
+abbrev pub change_under : TableInfo → Effect → ℕ → ChangeUnder
+change_under info effect write = record { info = info; effect = effect; write = write }
+
 -- it is ready with its change; or it ended for a fault of its files
-abbrev pub Writes : {D : Type 0} → ℕ → ToldHouse D → TableInfo → Effect → ℕ → Prepared → List Entry → Type 0
-Writes txn now info effect write (prepared.Ready ready) added = (added ≡ [])
-    × ((put : List Place) × IsChangeReady info effect write put ready)
-Writes txn now info effect write (prepared.Ended found) added = AbortsFor txn now [] IsWriteFault found added
+abbrev pub Writes : {D : Type 0} → ℕ → ToldHouse D → ChangeUnder → Prepared → List Entry → Type 0
+Writes txn now change (prepared.Ready ready) added = (added ≡ [])
+    × ((put : List Place) × IsChangeReady change.info change.effect change.write put ready)
+Writes txn now change (prepared.Ended found) added = AbortsFor txn now [] IsWriteFault found added

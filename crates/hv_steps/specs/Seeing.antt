@@ -58,7 +58,8 @@ abbrev pub AreFound : List TrailItem → TxnId → ℕ → List TableInfo → Ty
 AreFound trail by place infos = AllByRecursion (IsFound trail by place) infos
 
 -- what is found of a name
-pub record IsFoundAs (trail : List TrailItem) (by : TxnId) (place : ℕ) (name : List ℕ) (found : Option TableInfo) : Type 0 where
+pub record IsFoundAs (trail : List TrailItem) (by : TxnId) (place : ℕ) (name : List ℕ)
+    (found : Option TableInfo) : Type 0 where
   pub info : found ≡ option_map info_in (table_of_name name (state_then trail place).tables)
   pub reads : (one : TableInfo) → found ≡ Some one → IsFound trail by place one
 

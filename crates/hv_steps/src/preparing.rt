@@ -21,7 +21,7 @@ ghost use Rattle.hv_steps.specs.declared.reply.Prepared.TheVariants as found;
 ghost use Rattle.hv_steps.specs.Going.{faults_in, AddsOwn, CauseKeeps, Goes, IsOpenHouse, WasOnWay, WasOpened};
 ghost use Rattle.hv_steps.specs.Leaving.{EndsAct};
 ghost use Rattle.hv_steps.specs.Phases.{ComesTo, Prepares, CanConcludeIn, NoCause};
-ghost use Rattle.hv_steps.specs.Preparing.{ended, ended_by, failed_count, given_entries, asks_as, job_entries, EndsFor, MakesReady, ComesToChange, ComesToJob, IsGivenSo, IsStoodSo, IsFaultOf, IsRefusal, HasItsId, Writes};
+ghost use Rattle.hv_steps.specs.Preparing.{ended, ended_by, failed_count, given_entries, asks_as, job_entries, EndsFor, end_said, MakesReady, ComesToChange, ComesToJob, IsGivenSo, IsStoodSo, IsFaultOf, IsRefusal, HasItsId, change_under, Writes};
 ghost use Rattle.hv_actor.specs.Acting.{among, known};
 
 use crate::putting::put;
@@ -98,7 +98,7 @@ fn made_ready<D: Shelf + Drop, W: Actor<D, ToldHouse<D>>>(
     ensures goes { (wanted : List ℕ) → IfOk text (λ line. line.items ≡ wanted)
         → Goes (among D.told D.faults W.between W.meanwhile) (faults_in D.faults (W.house actor.old)) txn.0
         (known (W.own actor.old) (W.house actor.old)) (known (W.own actor.new) (W.house actor.new))
-        (MakesReady txn.0 (W.house actor.old) (W.house actor.new) end wanted) result }
+        (MakesReady txn.0 (W.house actor.old) (W.house actor.new) (end_said end wanted)) result }
 {
     match text {
         Ok(text) => Ok(Prepared::Ready(Ready {
@@ -236,7 +236,7 @@ fn put_rows<D: Shelf + Drop, W: Actor<D, ToldHouse<D>>>(
     ensures keeps { W.keeps actor.new }
     ensures goes { Goes (among D.told D.faults W.between W.meanwhile) (faults_in D.faults (W.house actor.old)) way.txn.0
         (known (W.own actor.old) (W.house actor.old)) (known (W.own actor.new) (W.house actor.new))
-        (Writes way.txn.0 (W.house actor.new) change.info change.effect write.0) result }
+        (Writes way.txn.0 (W.house actor.new) (change_under change.info change.effect write.0)) result }
     ensures can { IfOk result (CanConcludeIn D.told (W.house actor.new) way) }
 {
     let RowChange {

@@ -24,7 +24,7 @@ use Rattle.hv_table_reader.specs.declared.fault.RowFault.{RowFault}
 use Rattle.hv_table_reader.specs.declared.fault.RowFault.TheVariants as fault
 use Rattle.hv_table_reader.specs.Damage.{IsDamage}
 use Rattle.hv_acts.specs.Counting.{AreAsMany}
-use Rattle.hv_table_reader.specs.Counting.{counted_at, counted_in, CountsUpTo, TellsUncounted, HasKindCounts, IsKindUncounted, IsOfAsked, TellsKind, IsAmissOf}
+use Rattle.hv_table_reader.specs.Counting.{counted_at, counted_in, CountsUpTo, TellsUncounted, HasKindCounts, dues_if, IsKindUncounted, IsOfAsked, TellsKind, IsAmissOf}
 use Rattle.hv_table_reader.specs.declared.wanting.Wanted.{Wanted}
 use Rattle.hv_table_reader.specs.Steady.{is_asked, AreWanted}
 use Rattle.hv_table_reader.proofs.Sheets.{reads-none, reads-next, spoiled-told}
@@ -80,7 +80,7 @@ kind-counted (Some s) deletes taken asked counts dues done all =
 pub kind-told : (o : Option Store) (deletes : Bool) (table : ℕ) (taken : List DirFile) (asked : Bool) (counts : List Counted) (dues : List Due) (why : RowFault)
     → CountsUpTo o deletes taken counts
     → ((sheets : List Sheet) → AreCounted deletes taken counts sheets → TellsUncounted deletes table dues sheets why) → IsOfAsked asked why
-    → Tells o (λ s. TellsKind deletes table s.tree taken asked dues why)
+    → Tells o (λ s. TellsKind deletes table s.tree taken (dues_if asked dues) why)
 kind-told None deletes table taken asked counts dues why done all own = tt
 kind-told (Some s) deletes table taken asked counts dues (fault.Damaged told) done all own =
     let reads = done.reads in
@@ -137,7 +137,7 @@ module _ (wants : List ℕ → Bool) (info : TableInfo) (wanted : Wanted) where
   kind-is false files taken = taken.inserts_are
 
   told-one : (s : Store) (kind : Bool) (others : List Due) (told : FilePlace) → AreAsMany wanted.dues.items (dues_wanted wants others) → AreWanted wants info s.tree wanted
-      → IsKindUncounted kind info.table.0 s.tree (of_kind kind) (is_asked wanted kind) wanted.dues.items told → IsToldUncounted wants info list s.tree others told
+      → IsKindUncounted kind info.table.0 s.tree (of_kind kind) (dues_if (is_asked wanted kind) wanted.dues.items) told → IsToldUncounted wants info list s.tree others told
   told-one s kind others told same taken is =
       let own = taken.asks kind is.asks in
       record {
@@ -173,7 +173,7 @@ module _ (wants : List ℕ → Bool) (info : TableInfo) (wanted : Wanted) where
 
   pub amiss-so : (o : Option Store) (kind : Bool) (others : List Due) (why : RowFault) → AreAsMany wanted.dues.items (dues_wanted wants others)
       → Tells o (λ s. AreWanted wants info s.tree wanted)
-      → Tells o (λ s. TellsKind kind info.table.0 s.tree (of_kind kind) (is_asked wanted kind) wanted.dues.items why) → IsDamage why
+      → Tells o (λ s. TellsKind kind info.table.0 s.tree (of_kind kind) (dues_if (is_asked wanted kind) wanted.dues.items) why) → IsDamage why
       → Tells o (λ s. IsAmissOf wants info list s.tree others)
   amiss-so None kind others why same taken told damage = tt
   amiss-so (Some s) kind others (fault.House why) same taken told damage = absurd damage

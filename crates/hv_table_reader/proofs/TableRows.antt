@@ -31,7 +31,7 @@ use Rattle.hv_acts.specs.declared.told.ToldHouse.{ToldHouse}
 use Rattle.hv_acts.specs.Told.{book_in}
 use Rattle.hv_table_reader.specs.Counting.{IsAmissOf}
 use Rattle.hv_table_reader.proofs.Stood.{rows-content, none-amiss}
-use Rattle.hv_table_reader.specs.Steady.{AreSteady, AreListedSteady, is_asked, AreWanted, AreWantedSteady, IsListing, HasRowsThen}
+use Rattle.hv_table_reader.specs.Steady.{AreSteady, AreListedSteady, is_asked, AreWanted, as_seen_by, AreWantedSteady, IsListing, HasRowsThen}
 use Rattle.hv_table_reader.proofs.Moments.{front-more, take-front}
 
 module _ {D : Type 0} (told : D → Option Store) (now : ToldHouse D) (by : TxnId) (place : ℕ) (info : TableInfo) (listing : Listing)
@@ -112,7 +112,7 @@ module _ (wants : List ℕ → Bool) (info : TableInfo) (listing : Listing) (wan
       λ file among. steady file (from-filter (is_file_wanted wants) file all (subst (IsIn file) is among)).0
 
   pub wanted-steady : {D : Type 0} (told : D → Option Store) (o : Option Store) (by : TxnId) (before : HouseSeen D)
-      → AreListedSteady told o by before info listing → AreWantedSteady told o by before wants info wanted
+      → AreListedSteady told o by before info listing → AreWantedSteady told o (as_seen_by by before) wants info wanted
   wanted-steady told o by before files = record {
     taken = told-wanted o files.taken;
     inserts = some-steady told o by before listing.inserts.items wanted.listing.inserts.items inserts files.inserts;

@@ -41,22 +41,31 @@ TellsUncounted deletes table dues sheets (fault.House why) = Unit {0}
 -- ---- the files of a kind that are taken
 
 -- they were read, and have as many records as commits say, where that is asked
-pub record HasKindCounts (deletes : Bool) (files : Tree) (taken : List DirFile) (asked : Bool) (dues : List Due) : Type 0 where
+pub record HasKindCounts (deletes : Bool) (files : Tree) (taken : List DirFile) (asked : Bool)
+    (dues : List Due) : Type 0 where
   pub sheets : List Sheet
   pub files_are : map sheet_file sheets ≡ taken
   pub each : AllByRecursion (IsSheet deletes files) sheets
   pub counted : AreOwn taken → asked ≡ true → IsCounted deletes dues sheets
 
+-- what commits say of a table, and whether it is asked
+pub record DuesAsked : Type 0 where
+  pub asked : Bool
+  pub dues : List Due
+
+abbrev pub dues_if : Bool → List Due → DuesAsked
+dues_if asked dues = record { asked = asked; dues = dues }
+
 -- they were read and haven't, and it is what is told of them
-pub record IsKindUncounted (deletes : Bool) (table : ℕ) (files : Tree) (taken : List DirFile) (asked : Bool) (dues : List Due)
+pub record IsKindUncounted (deletes : Bool) (table : ℕ) (files : Tree) (taken : List DirFile) (said : DuesAsked)
     (told : FilePlace) : Type 0 where
   pub sheets : List Sheet
   pub files_are : map sheet_file sheets ≡ taken
   pub each : AllByRecursion (IsSheet deletes files) sheets
-  pub asks : asked ≡ true
+  pub asks : said.asked ≡ true
   pub place : Place
   pub place_is : told ≡ told_place place told.at
-  pub miscounted : IsMiscounted deletes table dues sheets place told.at
+  pub miscounted : IsMiscounted deletes table said.dues sheets place told.at
 
 -- where damage is told of counts, they were asked
 abbrev pub IsOfAsked : Bool → RowFault → Type 0
@@ -64,10 +73,10 @@ IsOfAsked asked (fault.Damaged told) = asked ≡ true
 IsOfAsked asked (fault.House why) = Unit {0}
 
 -- where damage is told, one of them doesn't stand, or they don't have as many records
-abbrev pub TellsKind : Bool → ℕ → Tree → List DirFile → Bool → List Due → RowFault → Type 0
-TellsKind deletes table files taken asked dues (fault.Damaged told) =
-    IsOneDamaged deletes files taken told ⊎ IsKindUncounted deletes table files taken asked dues told
-TellsKind deletes table files taken asked dues (fault.House why) = Unit {0}
+abbrev pub TellsKind : Bool → ℕ → Tree → List DirFile → DuesAsked → RowFault → Type 0
+TellsKind deletes table files taken said (fault.Damaged told) =
+    IsOneDamaged deletes files taken told ⊎ IsKindUncounted deletes table files taken said told
+TellsKind deletes table files taken said (fault.House why) = Unit {0}
 
 -- ---- the files of a table's partitions that are wanted
 

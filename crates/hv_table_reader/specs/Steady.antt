@@ -85,12 +85,20 @@ pub record AreWanted (wants : List ℕ → Bool) (info : TableInfo) (files : Tre
   pub asks : (kind : Bool) → is_asked wanted kind ≡ true
       → AreOwn (files_taken kind wanted.listing.list named) × AreOwn (files_taken false wanted.listing.list named)
 
+-- who reads, and the house as it was seen before
+pub record SeenBy (D : Type 0) : Type 0 where
+  pub by : TxnId
+  pub before : HouseSeen D
+
+abbrev pub as_seen_by : {D : Type 0} → TxnId → HouseSeen D → SeenBy D
+as_seen_by by before = record { by = by; before = before }
+
 -- they are got with the bytes that they have in this store, where one is told
-pub record AreWantedSteady {D : Type 0} (told : D → Option Store) (o : Option Store) (by : TxnId) (before : HouseSeen D)
+pub record AreWantedSteady {D : Type 0} (told : D → Option Store) (o : Option Store) (seen : SeenBy D)
     (wants : List ℕ → Bool) (info : TableInfo) (wanted : Wanted) : Type 0 where
   pub taken : Tells o (λ s. AreWanted wants info s.tree wanted)
-  pub inserts : AreSteady told o by before wanted.listing.inserts.items
-  pub deletes : AreSteady told o by before wanted.listing.deletes.items
+  pub inserts : AreSteady told o seen.by seen.before wanted.listing.inserts.items
+  pub deletes : AreSteady told o seen.by seen.before wanted.listing.deletes.items
 
 -- ---- files that were listed at some moment
 

@@ -13,10 +13,10 @@ ghost use Rattle.hv_acts.specs.Told.{seen_in, trail_in, book_in};
 ghost use Rattle.hv_acts.specs.Counting.{AreAsMany};
 ghost use Rattle.hv_acts.specs.Going.{IsOpenHouse};
 ghost use Rattle.hv_acts.specs.Reading.{ReadsTable};
-ghost use Rattle.hv_table_reader.specs.Counting.{counted_at, CountsUpTo, HasKindCounts, TellsKind, IsAmissOf};
+ghost use Rattle.hv_table_reader.specs.Counting.{counted_at, CountsUpTo, HasKindCounts, dues_if, TellsKind, IsAmissOf};
 ghost use Rattle.hv_table_reader.specs.Damage.{IsShortDamage, IsDamage, TellsFile, TellsOne};
 ghost use Rattle.hv_table_reader.specs.Tables.{LooksOver};
-ghost use Rattle.hv_table_reader.specs.Steady.{IsSteady, AreSteady, AreWantedSteady, IsNamedThen, HasRowsThen};
+ghost use Rattle.hv_table_reader.specs.Steady.{IsSteady, AreSteady, as_seen_by, AreWantedSteady, IsNamedThen, HasRowsThen};
 ghost use Rattle.hv_actor.specs.Acting.{among, known};
 
 use crate::acting::{count_dues, get_file, list_table};
@@ -188,7 +188,8 @@ fn deleted_counted<D: Shelf + Drop, W: Actor<D, ToldHouse<D>>>(
     ensures counted { (o : Option Store) → AreSteady D.told o by (seen_in (W.house actor.old)) taken.now
         → IfOk result (λ _. Tells o (λ s. HasKindCounts true s.tree taken.now asked dues.now)) }
     ensures damage { (o : Option Store) → AreSteady D.told o by (seen_in (W.house actor.old)) taken.now
-        → IfErr result (λ fault. Tells o (λ s. TellsKind true table.0 s.tree taken.now asked dues.now fault)) }
+        → IfErr result (λ fault.
+        Tells o (λ s. TellsKind true table.0 s.tree taken.now (dues_if asked dues.now) fault)) }
     ensures short { IfErr result IsShortDamage }
 {
     let mut counts = Vec::new(alloc);
@@ -223,7 +224,7 @@ fn left_counted<D: Shelf + Drop, W: Actor<D, ToldHouse<D>>>(
         → IfOk result (λ _. Tells o (λ s. HasKindCounts false s.tree taken.now asked dues.now)) }
     ensures damage { (o : Option Store) → AreSteady D.told o by (seen_in (W.house actor.old)) taken.now
         → IfErr result (λ fault.
-        Tells o (λ s. TellsKind false info.now.table.0 s.tree taken.now asked dues.now fault)) }
+        Tells o (λ s. TellsKind false info.now.table.0 s.tree taken.now (dues_if asked dues.now) fault)) }
     ensures short { IfErr result IsShortDamage }
 {
     let mut counts = Vec::new(alloc);
@@ -247,10 +248,10 @@ fn read_listed<D: Shelf + Drop, W: Actor<D, ToldHouse<D>>>(
     ensures looks { LooksOver (among D.told D.faults W.between W.meanwhile) by
         (known (W.own actor.old) (W.house actor.old)) (known (W.own actor.new) (W.house actor.new)) result }
     ensures rows { (o : Option Store) (wants : List ℕ → Bool)
-        → AreWantedSteady D.told o by (seen_in (W.house actor.old)) wants info.now wanted.now
+        → AreWantedSteady D.told o (as_seen_by by (seen_in (W.house actor.old))) wants info.now wanted.now
         → IfOk result (λ rows. Tells o (λ s. AreRows wants info.now wanted.now.listing.list s.tree rows.items)) }
     ensures damage { (o : Option Store) (wants : List ℕ → Bool) (others : List Due)
-        → AreWantedSteady D.told o by (seen_in (W.house actor.old)) wants info.now wanted.now
+        → AreWantedSteady D.told o (as_seen_by by (seen_in (W.house actor.old))) wants info.now wanted.now
         → AreAsMany wanted.now.dues.items (dues_wanted wants others)
         → IfErr result (λ why. IsDamage why
         → Tells o (λ s. IsAmissOf wants info.now wanted.now.listing.list s.tree others)) }

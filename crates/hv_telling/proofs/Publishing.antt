@@ -35,7 +35,7 @@ use Rattle.hv_house.specs.declared.house.House.{House}
 use Rattle.hv_house.specs.declared.publishing.PublishFault.{PublishFault}
 use Rattle.hv_house.specs.declared.publishing.PublishFault.TheVariants as fault
 use Rattle.hv_house.specs.House.{entries_of, IsReady as IsReadyHouse, IsFaithful}
-use Rattle.hv_house.specs.Publishing.{PublishStepWithin}
+use Rattle.hv_house.specs.Publishing.{measured, PublishStepWithin}
 use Rattle.hv_house.specs.Steps.{seen_of}
 use Rattle.hv_house.proofs.Boots.{reads-journal}
 use Rattle.hv_telling.specs.Telling.{IsToldHouse, StandsByMarks, HoldsTrue, IsWhole, StillOpens, OpensLater, IsPublication, StaysPublished}
@@ -248,12 +248,12 @@ module _ {D : Type 0} (told : D → Option Store) (faults : D → ℕ) (renaming
       (moved-some (NotesNone (book_of trail)) (StandsByMarks trail (book_of trail)) (StandsByMarks trail (book_of trail)) (told before.shelf) (told now.shelf)
       step.store (λ x y none true_. same-true trail (book_of trail) x y none.tree_is true_) (holds-here is))
 
-  pub published-whole : (result : Result (Unit {0}) PublishFault) → PublishStepWithin profile told faults renamings event before now result
+  pub published-whole : (result : Result (Unit {0}) PublishFault) → PublishStepWithin (measured profile told faults) renamings event before now result
       → OnOk result (IsWhole told now)
   published-whole (Ok x) step = record { ready = step.ready; truly = λ is. published-holds step.step (told-before Done step.step is) }
   published-whole (Err why) step = tt
 
-  pub publish-stays : (result : Result (Unit {0}) PublishFault) → PublishStepWithin profile told faults renamings event before now result
+  pub publish-stays : (result : Result (Unit {0}) PublishFault) → PublishStepWithin (measured profile told faults) renamings event before now result
       → IfErr result (λ why. StaysPublished told why now)
   publish-stays (Ok x) step = tt
   publish-stays (Err fault.Starved) step = tt
@@ -288,7 +288,7 @@ module _ {D : Type 0} (told : D → Option Store) (faults : D → ℕ) (renaming
   ready-opens : IsReadyHouse told now → HoldsTrue told now → StillOpens told now
   ready-opens ready holds = held-opens told now ready.kept.reads (true-shown told now holds)
 
-  pub publish-opens : (result : Result (Unit {0}) PublishFault) → PublishStepWithin profile told faults renamings event before now result
+  pub publish-opens : (result : Result (Unit {0}) PublishFault) → PublishStepWithin (measured profile told faults) renamings event before now result
       → IsToldHouse told before → IfErr result (λ _. StillOpens told now)
   publish-opens (Ok x) step is = tt
   publish-opens (Err fault.Starved) step is =

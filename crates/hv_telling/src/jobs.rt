@@ -13,7 +13,7 @@ ghost use Rattle.hv_law_work.specs.Work.{IsStagedFile};
 ghost use Rattle.hv_law_work.specs.Marks.{MayGoNow};
 ghost use Rattle.hv_house.specs.Faults.{FileCause, EndsRun, HardStep};
 ghost use Rattle.hv_house.specs.House.{entries_of, IsSmall, IsNoted, IsHalted};
-ghost use Rattle.hv_house.specs.Publishing.{PublishStepWithin, HardPublish};
+ghost use Rattle.hv_house.specs.Publishing.{measured, PublishStepWithin, HardPublish};
 ghost use Rattle.hv_house.specs.Steps.{seen_of, outcome_of, IsMarked, PutStep, RemoveStepWithin, due_of};
 ghost use Rattle.hv_telling.specs.Telling.{IsToldHouse, IsWhole, StaysWhole, StaysPublished, StillOpens, IsPublication, HasNoOwn};
 
@@ -94,7 +94,8 @@ pub fn publish<D: Shelf>(
     ensures opens { IsToldHouse D.told house.old
         → IfErr result (λ _. StillOpens D.told house.new) }
     ensures start { house.new.start ≡ house.old.start }
-    ensures published { PublishStepWithin profile D.told D.faults renamings.now entry house.old house.new result }
+    ensures published { PublishStepWithin (measured profile D.told D.faults) renamings.now entry
+        house.old house.new result }
     ensures hard { HardPublish D.hard house.old house.new }
 {
     house.publish(renamings, entry)

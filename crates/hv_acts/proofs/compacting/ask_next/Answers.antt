@@ -6,7 +6,7 @@ use Rattle.hv_history.specs.JobsTrue.{kind_of}
 use Rattle.hv_trail.specs.Kept.{trail_of}
 use Rattle.hv_telling.specs.hv_house.specs.House.{entries_of}
 use Rattle.hv_telling.specs.Telling.{IsTrueNow}
-use Rattle.hv_acts.specs.Answers.{EntryStep}
+use Rattle.hv_acts.specs.Answers.{own_entry, EntryStep}
 use Rattle.hv_acts.specs.Compacting.{next_job}
 use Rattle.hv_acts.proofs.Shorts.{short_asked}
 use Rattle.hv_acts.proofs.Truths.{true-house, job-true}
@@ -32,7 +32,7 @@ returns-in-Ok g c =
     record {
       asked =
           ask-done g.D.Shelf.told g.D.Shelf.faults c.args.asked c.next_job-job.result c.args.house.now c.note_fitting.new.house c.requires.idle c.requires.runs next
-          (subst (λ (e : Entry). EntryStep {T = Unit {0}} g.D.Shelf.told g.D.Shelf.faults c.args.asked.by e c.args.house.now c.note_fitting.new.house (Ok tt))
+          (subst (λ (e : Entry). EntryStep {T = Unit {0}} g.D.Shelf.told g.D.Shelf.faults (own_entry c.args.asked.by e) c.args.house.now c.note_fitting.new.house (Ok tt))
           (entry-is c.args.asked c.next_job-job.result (next_job (trail_of c.args.house.now.trail)) c.kind_of-sort.result next c.kind_of-sort.ensures)
           c.in-Ok.ensures.noted);
       hard = c.note_fitting.ensures.hard;
@@ -44,7 +44,7 @@ returns-in-Err g c =
     record {
       asked =
           ask-refused g.D.Shelf.told g.D.Shelf.faults c.args.asked c.in-Err.fault c.args.house.now c.note_fitting.new.house c.requires.runs c.requires.room
-          (subst (λ (e : Entry). EntryStep {T = Unit {0}} g.D.Shelf.told g.D.Shelf.faults c.args.asked.by e c.args.house.now c.note_fitting.new.house (Err c.in-Err.fault))
+          (subst (λ (e : Entry). EntryStep {T = Unit {0}} g.D.Shelf.told g.D.Shelf.faults (own_entry c.args.asked.by e) c.args.house.now c.note_fitting.new.house (Err c.in-Err.fault))
           (entry-is c.args.asked c.next_job-job.result (next_job (trail_of c.args.house.now.trail)) c.kind_of-sort.result next c.kind_of-sort.ensures)
           c.in-Err.ensures.noted);
       hard = c.note_fitting.ensures.hard;

@@ -2,7 +2,7 @@ use Rattle.std.proofs.Common.{Err, Ok, subst}
 use Rattle.hv_base.specs.declared.ids.TableId.{TableId}
 use Rattle.hv_history.specs.declared.entry.Entry.TheVariants as entry
 use Rattle.hv_trail.specs.Kept.{trail_of}
-use Rattle.hv_acts.specs.Answers.{EntryStep}
+use Rattle.hv_acts.specs.Answers.{own_entry, EntryStep}
 use Rattle.hv_acts.proofs.Notes.{no-true}
 use Rattle.hv_acts.proofs.Truths.{make-true, true-house}
 use Rattle.hv_acts.proofs.Makes.{make-late, make-done, make-failed}
@@ -23,11 +23,11 @@ pub returns-in-Ok-clause-made : goal.returns-in-Ok-clause-made
 returns-in-Ok-clause-made g c =
     make-done g.D.Shelf.told g.D.Shelf.faults c.args.txn c.next_table-table.result c.next_place-at.result c.args.house.now c.note_fitting.new.house
     (c.runs_with.ensures.runs.0 c.if-not-runs_with.false).1 c.next_table-table.ensures.next c.next_place-at.ensures.place
-    (subst (λ (t : TableId). EntryStep {T = Unit {0}} g.D.Shelf.told g.D.Shelf.faults c.args.txn (entry.Create c.args.txn t) c.args.house.now c.note_fitting.new.house (Ok tt))
+    (subst (λ (t : TableId). EntryStep {T = Unit {0}} g.D.Shelf.told g.D.Shelf.faults (own_entry c.args.txn (entry.Create c.args.txn t)) c.args.house.now c.note_fitting.new.house (Ok tt))
     c.next_table-table.ensures.next c.in-Ok.ensures.noted)
 
 pub returns-in-Err-clause-made : goal.returns-in-Err-clause-made
 returns-in-Err-clause-made g c =
     make-failed g.D.Shelf.told g.D.Shelf.faults c.args.txn c.in-Err.fault c.args.house.now c.note_fitting.new.house
-    (subst (λ (t : TableId). EntryStep {T = Unit {0}} g.D.Shelf.told g.D.Shelf.faults c.args.txn (entry.Create c.args.txn t) c.args.house.now c.note_fitting.new.house (Err c.in-Err.fault))
+    (subst (λ (t : TableId). EntryStep {T = Unit {0}} g.D.Shelf.told g.D.Shelf.faults (own_entry c.args.txn (entry.Create c.args.txn t)) c.args.house.now c.note_fitting.new.house (Err c.in-Err.fault))
     c.next_table-table.ensures.next c.in-Err.ensures.noted)

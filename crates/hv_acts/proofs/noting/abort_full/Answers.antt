@@ -12,7 +12,7 @@ note_abort-requires-clause-small g c = short_full c.args.txn
 pub returns-in-Ok : goal.returns-in-Ok
 returns-in-Ok g c = record {
   noted =
-      subst (λ (line : List ℕ). AbortStep g.D.Shelf.told g.D.Shelf.faults c.args.txn (abort_of cause.Full line) c.args.house.now c.note_abort.new.house
+      subst (λ (line : List ℕ). AbortStep g.D.Shelf.told g.D.Shelf.faults (abort_of c.args.txn cause.Full line) c.args.house.now c.note_abort.new.house
       c.note_abort.result)
       c.in-Ok.ensures.line c.note_abort.ensures.noted;
   hard = c.note_abort.ensures.hard;

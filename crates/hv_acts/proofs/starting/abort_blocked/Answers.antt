@@ -17,7 +17,7 @@ note_abort-requires-clause-truly g c told = held-true (trail_of c.args.house.now
 pub returns-in-Ok : goal.returns-in-Ok
 returns-in-Ok g c = record {
   noted =
-      subst (λ (line : List ℕ). AbortStep g.D.Shelf.told g.D.Shelf.faults c.args.txn (abort_of (cause.Blocked c.args.holder) line) c.args.house.now
+      subst (λ (line : List ℕ). AbortStep g.D.Shelf.told g.D.Shelf.faults (abort_of c.args.txn (cause.Blocked c.args.holder) line) c.args.house.now
       c.note_abort.new.house c.note_abort.result)
       c.in-Ok.ensures.line c.note_abort.ensures.noted;
   hard = c.note_abort.ensures.hard;

@@ -1,7 +1,7 @@
 use Rattle.std.proofs.Common.{sym, subst, Option}
 use Rattle.hv_base.specs.declared.gate.Stage.{Stage}
 use Rattle.hv_session.specs.Doing.{IsHold, GoesToHold, up_to}
-use Rattle.hv_session.specs.Ways.{GoesAlone}
+use Rattle.hv_session.specs.Ways.{on_course, GoesAlone}
 use Rattle.hv_actor.specs.Acting.{among, known}
 use Rattle.hv_session.proofs.taking.go.Goals as goal
 
@@ -24,10 +24,10 @@ returns-in-Some-clause-goes g c =
 
 pub returns-in-None-clause-alone : goal.returns-in-None-clause-alone
 returns-in-None-clause-alone g c = λ acts on.
-    subst (λ (hold : Option Stage). GoesAlone g.D.Shelf.told g.D.Shelf.faults c.args.way (up_to c.args.tree hold) (g.W.Actor.house c.args.actor.now).house
+    subst (λ (hold : Option Stage). GoesAlone g.D.Shelf.told g.D.Shelf.faults (on_course c.args.way (up_to c.args.tree hold)) (g.W.Actor.house c.args.actor.now).house
     (g.W.Actor.house c.go_unheld.new.actor).house c.go_unheld.result) (sym c.in-None.is) (c.go_unheld.ensures.alone acts on)
 
 pub returns-in-Some-clause-alone : goal.returns-in-Some-clause-alone
 returns-in-Some-clause-alone g c = λ acts on.
-    subst (λ (hold : Option Stage). GoesAlone g.D.Shelf.told g.D.Shelf.faults c.args.way (up_to c.args.tree hold) (g.W.Actor.house c.args.actor.now).house
+    subst (λ (hold : Option Stage). GoesAlone g.D.Shelf.told g.D.Shelf.faults (on_course c.args.way (up_to c.args.tree hold)) (g.W.Actor.house c.args.actor.now).house
     (g.W.Actor.house c.hold_at.new.actor).house c.hold_at.result) (sym c.in-Some.is) (c.hold_at.ensures.alone acts on)

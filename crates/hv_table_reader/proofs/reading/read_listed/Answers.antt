@@ -5,7 +5,7 @@ use Rattle.hv_law_dues.specs.hv_counts.specs.declared.due.Due.{Due}
 use Rattle.hv_table_rows.specs.Reading.{Reads, deleted_in, left_in}
 use Rattle.hv_table_reader.specs.Damage.{IsDamage}
 use Rattle.hv_acts.specs.Told.{seen_in}
-use Rattle.hv_table_reader.specs.Counting.{TellsKind, IsAmissOf}
+use Rattle.hv_table_reader.specs.Counting.{dues_if, TellsKind, IsAmissOf}
 use Rattle.hv_table_reader.proofs.Counts.{err-up, amiss-so}
 use Rattle.hv_table_reader.specs.Steady.{AreSteady}
 use Rattle.hv_table_reader.proofs.TableLooks.{looked, looks-then, looks-up, looks-on, looks-lacks}
@@ -39,8 +39,8 @@ returns-in_err-gone-clause-damage g c = λ o wants others files same.
     let why = c.in_err-gone.field-0.0 in
     err-up (λ w. IsDamage w → Tells o (λ s. IsAmissOf wants info wanted.listing.list s.tree others)) c.from_residual.result why c.from_residual.ensures.1
     (amiss-so wants info wanted o true others why same files.taken
-    (subst (λ (taken : List DirFile). Tells o (λ s. TellsKind true info.table.0 s.tree taken wanted.counts_deletes wanted.dues.items why)) c.deref.ensures.value
-    (subst (λ (dues : List Due). Tells o (λ s. TellsKind true info.table.0 s.tree c.deref.result.now wanted.counts_deletes dues why)) c.deref-2.ensures.value
+    (subst (λ (taken : List DirFile). Tells o (λ s. TellsKind true info.table.0 s.tree taken (dues_if wanted.counts_deletes wanted.dues.items) why)) c.deref.ensures.value
+    (subst (λ (dues : List Due). Tells o (λ s. TellsKind true info.table.0 s.tree c.deref.result.now (dues_if wanted.counts_deletes dues) why)) c.deref-2.ensures.value
     (c.in_err-gone.ensures.damage o (subst (AreSteady g.D.Shelf.told o c.args.by (seen_in before)) (sym c.deref.ensures.value) files.deletes)))))
 
 pub returns-in_err-rows-clause-damage : goal.returns-in_err-rows-clause-damage
@@ -54,8 +54,8 @@ returns-in_err-rows-clause-damage g c = λ o wants others files same.
     behind-adds g.D.Shelf.faults g.W.Actor.between (g.W.Actor.own c.args.actor.now) (g.W.Actor.own c.deleted_counted.new.actor) before then_ [] c.in_ok-gone.ensures.looks.adds in
     err-up (λ w. IsDamage w → Tells o (λ s. IsAmissOf wants info wanted.listing.list s.tree others)) c.from_residual-in_err-rows.result why c.from_residual-in_err-rows.ensures.1
     (amiss-so wants info wanted o false others why same files.taken
-    (subst (λ (taken : List DirFile). Tells o (λ s. TellsKind false info.table.0 s.tree taken wanted.counts_rows wanted.dues.items why)) c.deref-3.ensures.value
-    (subst (λ (dues : List Due). Tells o (λ s. TellsKind false info.table.0 s.tree c.deref-3.result.now wanted.counts_rows dues why)) c.deref-5.ensures.value
+    (subst (λ (taken : List DirFile). Tells o (λ s. TellsKind false info.table.0 s.tree taken (dues_if wanted.counts_rows wanted.dues.items) why)) c.deref-3.ensures.value
+    (subst (λ (dues : List Due). Tells o (λ s. TellsKind false info.table.0 s.tree c.deref-3.result.now (dues_if wanted.counts_rows dues) why)) c.deref-5.ensures.value
     (c.in_err-rows.ensures.damage o
     (subst (AreSteady g.D.Shelf.told o c.args.by (seen_in then_)) (sym c.deref-3.ensures.value)
     (all-steady-on g.D.Shelf.told o c.args.by (seen_in before) (seen_in then_) wanted.listing.inserts.items next files.inserts))))))

@@ -4,7 +4,7 @@ use Rattle.hv_history.specs.declared.entry.Entry.{Entry}
 use Rattle.hv_finals.specs.declared.ending.JobEnd.TheVariants as its_end
 use Rattle.hv_finals.specs.Finals.{entry_of}
 use Rattle.hv_house.specs.House.{entries_of, book_limit}
-use Rattle.hv_house.specs.Ending.{IsSame, JobGoes, SomeJobGoes, EndStep}
+use Rattle.hv_house.specs.Ending.{IsSame, JobGoes, SomeJobGoes, gauged, ends_by, EndStep}
 use Rattle.hv_house.proofs.EndSteps.{raised-step, failed-bare, failed-short, kept-beside, cleared-stops, gone-then}
 use Rattle.hv_house.proofs.house.House.give_up.Goals as goal
 
@@ -42,6 +42,8 @@ returns g c = record {
       gone-then g.D.Shelf.told g.D.Shelf.faults g.D.Shelf.hard c.args.number (event ∷ []) c.args.self.now c.clear_job.new.self c.note_end.new.self
       c.note_end.result c.in_ok-clear_job.ensures.beside c.in_ok-clear_job.ensures.gone c.in_ok-clear_job.ensures.marks c.in_ok-clear_job.ensures.cause
       (subst
-      (λ (x : Entry). EndStep g.D.Shelf.told g.D.Shelf.faults g.D.Shelf.hard IsSame IsSame (x ∷ []) c.clear_job.new.self c.note_end.new.self c.note_end.result)
+      (λ (x : Entry).
+      EndStep (gauged g.D.Shelf.told g.D.Shelf.faults g.D.Shelf.hard) (ends_by IsSame IsSame (x ∷ [])) c.clear_job.new.self c.note_end.new.self
+      c.note_end.result)
       c.failed_entry.ensures c.note_end.ensures.step);
 }

@@ -5,7 +5,8 @@ use Rattle.hv_history.specs.Journal.{place_of, IsJournal}
 use Rattle.hv_history.specs.State.{state_of, nothing_yet}
 use Rattle.hv_history.specs.Legal.{AllFit, HasRoom}
 use Rattle.hv_house.specs.declared.boot.BootFault.TheVariants as fault
-use Rattle.hv_house.specs.Booting.{IsLearned, IsRaisedOver, StopsOver}
+use Rattle.hv_house.specs.Ending.{gauged}
+use Rattle.hv_house.specs.Booting.{IsLearned, read_to, IsRaisedOver, StopsOver}
 use Rattle.hv_house.proofs.Raising.{unopened, lacks-memory}
 use Rattle.hv_house.proofs.house.House.open_read.Goals as goal
 
@@ -30,13 +31,14 @@ pub returns-in-Ok-clause-raised : goal.returns-in-Ok-clause-raised
 returns-in-Ok-clause-raised g c =
     subst
     (λ (es : List Entry).
-    IfOk c.open_over.result (IsRaisedOver g.D.Shelf.told g.D.Shelf.faults g.D.Shelf.hard c.args.limits c.args.start.value c.args.shelf es))
+    IfOk c.open_over.result
+    (IsRaisedOver (gauged g.D.Shelf.told g.D.Shelf.faults g.D.Shelf.hard) c.args.limits c.args.start.value (read_to c.args.shelf es)))
     c.learn.ensures.entries c.open_over.ensures.raised
 
 pub returns-in-Ok-clause-stopped : goal.returns-in-Ok-clause-stopped
 returns-in-Ok-clause-stopped g c =
-    subst (λ (es : List Entry). IfErr c.open_over.result (StopsOver g.D.Shelf.told g.D.Shelf.faults g.D.Shelf.hard c.args.shelf es)) c.learn.ensures.entries
-    c.open_over.ensures.stopped
+    subst (λ (es : List Entry). IfErr c.open_over.result (StopsOver (gauged g.D.Shelf.told g.D.Shelf.faults g.D.Shelf.hard) c.args.shelf es))
+    c.learn.ensures.entries c.open_over.ensures.stopped
 
 pub returns-in-Err-clause-stopped : goal.returns-in-Err-clause-stopped
 returns-in-Err-clause-stopped g c =
