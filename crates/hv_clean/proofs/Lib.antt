@@ -1,0 +1,12 @@
+pub mod Holds
+pub mod Moved
+pub mod Texts
+pub mod Lasts
+pub mod CoversLast
+pub mod Namings
+pub mod Turns
+pub mod Ended
+pub mod Forgets
+pub mod AloneJobs
+pub mod AloneIds
+pub mod AloneAll

@@ -1,0 +1,34 @@
+use Rattle.hv_clean.specs.Stopping.{refusal_of}
+use Rattle.std.specs.Prelude.{None, Result}
+use Rattle.hv_trail.specs.Steps.{HouseSeen, Read}
+use Rattle.hv_compact.specs.hv_job_acts.specs.Reading.{PlacesSo}
+use Rattle.hv_clean.proofs.Holds.{behind-err, read-swept, read-quietly}
+use Rattle.hv_clean.proofs.Forgets.{listed-refused, list-sweeps, list-less}
+use Rattle.hv_clean.proofs.forgetting.list.Goals as goal
+
+pub hold-requires-clause-few : goal.hold-requires-clause-few
+hold-requires-clause-few g c = g.met.W.Actor.one
+
+pub returns-in-Ok-clause-sweeps : goal.returns-in-Ok-clause-sweeps
+returns-in-Ok-clause-sweeps g c =
+    read-swept g.D.Shelf.told g.D.Shelf.faults g.W.Actor.between g.W.Actor.meanwhile g.met.W.Actor.goes_on (λ (seen : HouseSeen g.D) (r : Result _ _). PlacesSo g.D.Shelf.told seen c.args.table r)
+    (g.W.Actor.own c.args.actor.now) (g.W.Actor.own c.hold.new.self) (g.W.Actor.house c.args.actor.now) (g.W.Actor.house c.hold.new.self) c.requires.running c.args.swept.now c.in-Ok.places c.hold.result c.in-Ok.is c.hold.ensures.held c.hold.ensures.went
+
+pub returns-clause-sweeps : goal.returns-clause-sweeps
+returns-clause-sweeps g c =
+    list-sweeps g.D.Shelf.told g.D.Shelf.faults g.W.Actor.between g.met.W.Actor.rows g.W.Actor.meanwhile g.met.W.Actor.goes_on c.args.table (g.W.Actor.own c.args.actor.now) (g.W.Actor.own c.hold.new.self) (g.W.Actor.house c.args.actor.now) (g.W.Actor.house c.hold.new.self) c.requires.running c.args.swept.now c.counted.result
+    (refusal_of c.in-Err.why) c.refusal_of.result c.not_listed.result c.refusal_of.ensures c.counted.ensures c.not_listed.ensures
+    (behind-err g.D.Shelf.told g.D.Shelf.faults g.W.Actor.between g.W.Actor.meanwhile g.met.W.Actor.goes_on (λ (seen : HouseSeen g.D) (r : Result _ _). PlacesSo g.D.Shelf.told seen c.args.table r)
+    (g.W.Actor.own c.args.actor.now) (g.W.Actor.own c.hold.new.self) (g.W.Actor.house c.args.actor.now) (g.W.Actor.house c.hold.new.self) c.requires.running c.args.swept.now (Read None) read-quietly c.hold.result c.in-Err.why c.in-Err.is c.hold.ensures.held c.hold.ensures.went)
+
+pub returns-clause-listed : goal.returns-clause-listed
+returns-clause-listed g c =
+    listed-refused g.D.Shelf.told g.D.Shelf.faults g.W.Actor.between g.met.W.Actor.rows g.W.Actor.meanwhile g.met.W.Actor.goes_on c.args.table (g.W.Actor.own c.args.actor.now) (g.W.Actor.own c.hold.new.self) (g.W.Actor.house c.args.actor.now) (g.W.Actor.house c.hold.new.self) c.requires.running c.hold.result c.in-Err.why c.args.swept.now
+    c.counted.result c.refusal_of.result c.not_listed.result c.in-Err.is c.hold.ensures.held c.refusal_of.ensures c.counted.ensures c.not_listed.ensures
+
+pub returns-clause-less : goal.returns-clause-less
+returns-clause-less g c =
+    list-less g.D.Shelf.told g.D.Shelf.faults g.W.Actor.between g.met.W.Actor.rows g.W.Actor.meanwhile g.met.W.Actor.goes_on c.args.table (g.W.Actor.own c.args.actor.now) (g.W.Actor.own c.hold.new.self) (g.W.Actor.house c.args.actor.now) (g.W.Actor.house c.hold.new.self) c.requires.running c.args.swept.now
+    (refusal_of c.in-Err.why) c.refusal_of.result c.not_listed.result c.refusal_of.ensures c.not_listed.ensures
+    (behind-err g.D.Shelf.told g.D.Shelf.faults g.W.Actor.between g.W.Actor.meanwhile g.met.W.Actor.goes_on (λ (seen : HouseSeen g.D) (r : Result _ _). PlacesSo g.D.Shelf.told seen c.args.table r)
+    (g.W.Actor.own c.args.actor.now) (g.W.Actor.own c.hold.new.self) (g.W.Actor.house c.args.actor.now) (g.W.Actor.house c.hold.new.self) c.requires.running c.args.swept.now (Read None) read-quietly c.hold.result c.in-Err.why c.in-Err.is c.hold.ensures.held c.hold.ensures.went)

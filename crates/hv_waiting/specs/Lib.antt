@@ -1,0 +1,5 @@
+pub mod Queue
+pub mod Starting
+pub mod Beginnings
+pub mod Doing
+pub mod Kinds
