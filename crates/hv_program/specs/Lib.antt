@@ -1,4 +1,7 @@
+pub use Rattle.hv_clean as hv_clean
 pub mod Change
+pub mod Background
+pub mod Beside
 pub mod Doing
 pub mod Own
 pub mod Keeping

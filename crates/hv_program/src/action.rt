@@ -12,11 +12,13 @@ ghost use Rattle.hv_session.specs.hv_beginning.specs.hv_steps.specs.Ending.{Adds
 ghost use Rattle.hv_session.specs.Taking.{asked_of, IsKeptIn, IsTakenAs};
 ghost use Rattle.hv_session.specs.Ways.{StopsTaken};
 ghost use Rattle.hv_program.specs.Doing.{asking_of, session_line};
+ghost use Rattle.hv_program.specs.Beside.{quietly};
 ghost use Rattle.hv_program.specs.Keeping.{standing_of, AreHeld, AreTrulyHeld, CanAllFinish};
 ghost use Rattle.hv_program.specs.Running.{Acts, IsFine, IsShort, Stops};
 ghost use Rattle.hv_program.specs.Stops.{IsShutFor};
 
 use crate::alone::{finish_alone, take_alone};
+use crate::background::{clean, compact};
 use crate::held::{Held, keep, let_go};
 use hv_base::{Duplicate, List, NoMemory, Text};
 use hv_script::{Action, Session, Statement};
@@ -50,6 +52,16 @@ fn nothing(alloc: Global) -> Reply
         text: List::from_vec(Vec::new(alloc)),
         refused: false,
         ended: None,
+    }
+}
+
+/// The reply of a pass, which prints nothing, where it was done.
+fn quietly(alloc: Global, passed: Result<(), HouseFault>) -> Result<Reply, HouseFault>
+    ensures { result ≡ quietly passed }
+{
+    match passed {
+        Ok(()) => Ok(nothing(alloc)),
+        Err(why) => Err(why),
     }
 }
 
@@ -210,5 +222,7 @@ pub fn act<D: Shelf + Drop>(
         Action::Run(statement) => run_statement(alloc, house, held, statement),
         Action::Announce(session) => Ok(announce(alloc, &session.name)?),
         Action::Release(session) => release(alloc, house, held, session),
+        Action::Compact => quietly(alloc, compact(alloc, house)),
+        Action::Clean => quietly(alloc, clean(alloc, house)),
     }
 }

@@ -1,0 +1,53 @@
+use Rattle.std.proofs.Common.{sym, ◌∙◌}
+use Rattle.hv_session.specs.hv_beginning.specs.hv_steps.specs.hv_table_reader.specs.hv_acts.specs.hv_telling.proofs.Told.{told-stays}
+use Rattle.hv_program.specs.Background.{IsCompacting}
+use Rattle.hv_program.proofs.Passed.{ok-of, err-of, ok-then, later-then, beside-then, cause-then}
+use Rattle.hv_program.proofs.background.compact.Goals as goal
+
+pub do_one-requires-clause-whole : goal.do_one-requires-clause-whole
+do_one-requires-clause-whole g c =
+    ok-of c.ask_for_due.result _ _ c.in-Ok.is c.ask_for_due.ensures.whole
+
+pub do_one-requires-clause-hard : goal.do_one-requires-clause-hard
+do_one-requires-clause-hard g c =
+    c.ask_for_due.ensures.hard
+
+pub returns-in-Ok-clause-added : goal.returns-in-Ok-clause-added
+returns-in-Ok-clause-added g c =
+    ok-then c.do_one.result _ _ (λ next. beside-then IsCompacting _ _ _ (ok-of c.ask_for_due.result _ _ c.in-Ok.is c.ask_for_due.ensures.added) next) c.do_one.ensures.added
+
+pub returns-in-Ok-clause-later : goal.returns-in-Ok-clause-later
+returns-in-Ok-clause-later g c =
+    ok-then c.do_one.result _ _ (λ next. later-then g.D.Shelf.faults _ _ _ (ok-of c.ask_for_due.result _ _ c.in-Ok.is c.ask_for_due.ensures.later) next) c.do_one.ensures.later
+
+pub returns-in-Ok-clause-done : goal.returns-in-Ok-clause-done
+returns-in-Ok-clause-done g c =
+    ok-then c.do_one.result _ _ (λ next. record { between = _; initiated = ok-of c.ask_for_due.result _ _ c.in-Ok.is c.ask_for_due.ensures.done; works = next }) c.do_one.ensures.done
+
+pub returns-in-Ok-clause-start : goal.returns-in-Ok-clause-start
+returns-in-Ok-clause-start g c =
+    c.do_one.ensures.start ∙ c.ask_for_due.ensures.start
+
+pub returns-in-Ok-clause-opens : goal.returns-in-Ok-clause-opens
+returns-in-Ok-clause-opens g c =
+    λ is. c.do_one.ensures.opens (told-stays g.D.Shelf.told c.ask_for_due.new.house.house c.args.house.now.house (sym c.ask_for_due.ensures.start) is)
+
+pub returns-in-Ok-clause-cause : goal.returns-in-Ok-clause-cause
+returns-in-Ok-clause-cause g c =
+    cause-then _ _ _ c.ask_for_due.ensures.cause.later c.do_one.result c.do_one.ensures.cause
+
+pub returns-in-Err-clause-stopped : goal.returns-in-Err-clause-stopped
+returns-in-Err-clause-stopped g c =
+    err-of c.ask_for_due.result _ c.in-Err.why c.in-Err.is c.ask_for_due.ensures.stopped
+
+pub returns-in-Err-clause-opens : goal.returns-in-Err-clause-opens
+returns-in-Err-clause-opens g c =
+    λ is. err-of c.ask_for_due.result _ c.in-Err.why c.in-Err.is (c.ask_for_due.ensures.opens is)
+
+pub returns-in-Err-clause-cause : goal.returns-in-Err-clause-cause
+returns-in-Err-clause-cause g c =
+    record { later = c.ask_for_due.ensures.cause.later; failed = err-of c.ask_for_due.result _ c.in-Err.why c.in-Err.is c.ask_for_due.ensures.cause.failed }
+
+pub returns-in-Err-clause-shut : goal.returns-in-Err-clause-shut
+returns-in-Err-clause-shut g c =
+    err-of c.ask_for_due.result _ c.in-Err.why c.in-Err.is c.ask_for_due.ensures.shut
