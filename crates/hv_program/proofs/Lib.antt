@@ -8,6 +8,8 @@ pub mod Sessions
 pub mod Besides
 pub mod Passed
 pub mod Worked
+pub mod Leaving
+pub mod Leaves
 pub mod Unasked
 pub mod Turns
 pub mod CutOpenings

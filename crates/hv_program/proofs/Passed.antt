@@ -114,6 +114,10 @@ pub ok-then : {T E : Type 0} (r : Result T E) (P Q : Type 0) → (P → Q) → I
 ok-then (Ok x) P Q f p = f p
 ok-then (Err why) P Q f p = tt
 
+pub err-then : {T : Type 0} (r : Result T HouseFault) (P Q : HouseFault → Type 0) → ((why : HouseFault) → P why → Q why) → IfErr r P → IfErr r Q
+err-then (Ok x) P Q f p = tt
+err-then (Err why) P Q f p = f why p
+
 pub later-then : {D : Type 0} (faults : D → ℕ) (a b c : ToldHouse D) → IsLater faults (seen_in a) (seen_in b) → IsLater faults (seen_in b) (seen_in c)
     → IsLater faults (seen_in a) (seen_in c)
 later-then faults a b c = later-further faults (seen_in a) (seen_in b) (seen_in c)

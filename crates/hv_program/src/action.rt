@@ -1,4 +1,4 @@
-ghost use Rattle.std.specs.Prelude.{◌≡◌, ◌≤◌, [], None, false, IfOk, IfErr};
+ghost use Rattle.std.specs.Prelude.{◌≡◌, ◌≤◌, [], None, false, length, IfOk, IfErr};
 ghost use Rattle.hv_actor.specs.Acting.{IsLater};
 ghost use Rattle.hv_session.specs.hv_beginning.specs.hv_steps.specs.hv_table_reader.specs.hv_acts.specs.Told.{seen_in};
 ghost use Rattle.hv_script.specs.declared.actions.Action.TheVariants as action;
@@ -133,6 +133,7 @@ fn run_statement<D: Shelf + Drop>(
         (D.faults house.old.house.shelf) (D.faults house.new.house.shelf)
         (standing_of house.old.house held.old.items) (standing_of house.new.house held.new.items)
         (action.Run statement.now) reply.text reply.refused) }
+    ensures later { IfOk result (λ _. IsLater D.faults (seen_in house.old) (seen_in house.new)) }
     ensures start { house.new.house.start ≡ house.old.house.start }
     ensures stopped { IfErr result (λ why. Stops (IsToldHouse D.told house.old.house) why
         (D.told house.new.house.shelf)
@@ -173,6 +174,7 @@ fn release<D: Shelf + Drop>(
         (D.faults house.old.house.shelf) (D.faults house.new.house.shelf)
         (standing_of house.old.house held.old.items) (standing_of house.new.house held.new.items)
         (action.Release session.now) reply.text reply.refused) }
+    ensures later { IfOk result (λ _. IsLater D.faults (seen_in house.old) (seen_in house.new)) }
     ensures start { house.new.house.start ≡ house.old.house.start }
     ensures stopped { IfErr result (λ why. Stops (IsToldHouse D.told house.old.house) why
         (D.told house.new.house.shelf)
@@ -197,6 +199,7 @@ pub fn act<D: Shelf + Drop>(
 ) -> Result<Reply, HouseFault>
     requires whole { IsWhole D.told house.old.house }
     requires hard { ShutsHard D.hard (seen_in house.old) }
+    requires begun { 1 ≤ length (entries_of house.old.house) }
     requires held { AreHeld (entries_of house.old.house) held.old.items }
     requires truly { AreTrulyHeld D.told house.old.house held.old.items }
     requires can { CanAllFinish D.told house.old held.old.items }
@@ -209,6 +212,7 @@ pub fn act<D: Shelf + Drop>(
         (D.faults house.old.house.shelf) (D.faults house.new.house.shelf)
         (standing_of house.old.house held.old.items) (standing_of house.new.house held.new.items)
         action.now reply.text reply.refused) }
+    ensures later { IfOk result (λ _. IsLater D.faults (seen_in house.old) (seen_in house.new)) }
     ensures start { house.new.house.start ≡ house.old.house.start }
     ensures stopped { IfErr result (λ why. Stops (IsToldHouse D.told house.old.house) why
         (D.told house.new.house.shelf)

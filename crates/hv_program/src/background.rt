@@ -1,7 +1,7 @@
 //! The passes of a script beside its statements, over a house on which nobody else acts: what is due is asked for, one job is done, and
 //! what nobody needs any more goes.
 
-ghost use Rattle.std.specs.Prelude.{◌≡◌, IfOk, IfErr};
+ghost use Rattle.std.specs.Prelude.{◌≡◌, ◌≤◌, length, IfOk, IfErr};
 ghost use Rattle.hv_actor.specs.Acting.{IsLater};
 ghost use Rattle.hv_session.specs.hv_beginning.specs.hv_steps.specs.hv_table_reader.specs.hv_acts.specs.Told.{seen_in};
 ghost use Rattle.hv_session.specs.hv_beginning.specs.hv_steps.specs.hv_table_reader.specs.hv_acts.specs.hv_telling.specs.hv_house.specs.Faults.{FileCause};
@@ -34,6 +34,7 @@ fn fault_of(why: RunFault) -> Result<(), HouseFault>
 fn ask_for_due<D: Shelf + Drop>(alloc: Global, house: &mut ToldHouse<D>) -> Result<(), HouseFault>
     requires whole { IsWhole D.told house.old.house }
     requires hard { ShutsHard D.hard (seen_in house.old) }
+    requires begun { 1 ≤ length (entries_of house.old.house) }
     ensures whole { IfOk result (λ _. IsWhole D.told house.new.house) }
     ensures added { IfOk result (λ _. AddsBeside IsCompacting
         (entries_of house.old.house) (entries_of house.new.house)) }
@@ -56,6 +57,7 @@ fn ask_for_due<D: Shelf + Drop>(alloc: Global, house: &mut ToldHouse<D>) -> Resu
 fn do_one<D: Shelf + Drop>(alloc: Global, house: &mut ToldHouse<D>) -> Result<(), HouseFault>
     requires whole { IsWhole D.told house.old.house }
     requires hard { ShutsHard D.hard (seen_in house.old) }
+    requires begun { 1 ≤ length (entries_of house.old.house) }
     ensures whole { IfOk result (λ _. IsWhole D.told house.new.house) }
     ensures added { IfOk result (λ _. AddsBeside IsCompacting
         (entries_of house.old.house) (entries_of house.new.house)) }
@@ -78,6 +80,7 @@ fn do_one<D: Shelf + Drop>(alloc: Global, house: &mut ToldHouse<D>) -> Result<()
 pub fn compact<D: Shelf + Drop>(alloc: Global, house: &mut ToldHouse<D>) -> Result<(), HouseFault>
     requires whole { IsWhole D.told house.old.house }
     requires hard { ShutsHard D.hard (seen_in house.old) }
+    requires begun { 1 ≤ length (entries_of house.old.house) }
     ensures whole { IfOk result (λ _. IsWhole D.told house.new.house) }
     ensures added { IfOk result (λ _. AddsBeside IsCompacting
         (entries_of house.old.house) (entries_of house.new.house)) }
@@ -100,6 +103,7 @@ pub fn compact<D: Shelf + Drop>(alloc: Global, house: &mut ToldHouse<D>) -> Resu
 pub fn clean<D: Shelf + Drop>(alloc: Global, house: &mut ToldHouse<D>) -> Result<(), HouseFault>
     requires whole { IsWhole D.told house.old.house }
     requires hard { ShutsHard D.hard (seen_in house.old) }
+    requires begun { 1 ≤ length (entries_of house.old.house) }
     ensures whole { IfOk result (λ _. IsWhole D.told house.new.house) }
     ensures added { IfOk result (λ _. AddsBeside IsCleaning
         (entries_of house.old.house) (entries_of house.new.house)) }

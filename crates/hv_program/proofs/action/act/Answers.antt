@@ -1,3 +1,6 @@
+use Rattle.hv_actor.specs.Acting.{IsLater}
+use Rattle.hv_actor.specs.Rows.{later_itself}
+use Rattle.hv_session.specs.hv_beginning.specs.hv_steps.specs.hv_table_reader.specs.hv_acts.specs.Told.{seen_in}
 use Rattle.hv_session.specs.hv_beginning.specs.hv_steps.specs.hv_table_reader.specs.hv_acts.specs.hv_telling.specs.hv_house.specs.declared.fault.HouseFault.TheVariants as fault
 use Rattle.hv_session.specs.hv_beginning.specs.hv_steps.specs.hv_table_reader.specs.hv_acts.specs.hv_telling.specs.Telling.{IsWhole, StillOpens}
 use Rattle.hv_program.specs.Stops.{IsShutFor}
@@ -15,6 +18,17 @@ returns-in_err-announce-in-Announce-clause-opens g c = opens-first g.D.Shelf.tol
 
 pub returns-in_err-announce-in-Announce-clause-shut : goal.returns-in_err-announce-in-Announce-clause-shut
 returns-in_err-announce-in-Announce-clause-shut g c = passed_up c.from_residual.result fault.NoMemory (IsShutFor c.args.house.now) c.from_residual.ensures.1 tt
+
+pub returns-in_ok-announce-in-Announce-clause-later : goal.returns-in_ok-announce-in-Announce-clause-later
+returns-in_ok-announce-in-Announce-clause-later g c = later_itself g.D.Shelf.faults (seen_in c.args.house.now)
+
+pub returns-in-Compact-clause-later : goal.returns-in-Compact-clause-later
+returns-in-Compact-clause-later g c =
+    quiet-fact c.compact.result c.quietly.result (IsLater g.D.Shelf.faults (seen_in c.args.house.now) (seen_in c.compact.new.house)) c.quietly.ensures c.compact.ensures.later
+
+pub returns-in-Clean-clause-later : goal.returns-in-Clean-clause-later
+returns-in-Clean-clause-later g c =
+    quiet-fact c.clean.result c.quietly.result (IsLater g.D.Shelf.faults (seen_in c.args.house.now) (seen_in c.clean.new.house)) c.quietly.ensures c.clean.ensures.later
 
 pub returns-in-Compact-clause-whole : goal.returns-in-Compact-clause-whole
 returns-in-Compact-clause-whole g c = quiet-fact c.compact.result c.quietly.result (IsWhole g.D.Shelf.told c.compact.new.house.house) c.quietly.ensures c.compact.ensures.whole

@@ -5,6 +5,7 @@ use Rattle.hv_session.specs.hv_beginning.specs.hv_steps.specs.hv_table_reader.sp
 use Rattle.hv_program.specs.Background.{IsCompacting, Initiated}
 use Rattle.hv_program.specs.Beside.{AddsBeside}
 use Rattle.hv_program.proofs.Sessions.{is-kept, shuts-kept}
+use Rattle.hv_program.proofs.Leaves.{asked-stopped}
 use Rattle.hv_program.proofs.Passed.{ok-of, err-of, full-ok, stops-err, start-same, still-opens, stops-shut, stops-cause, done-cause, asked-done, asked-full, asked-beside, asked-some, asked-open, asked-shut}
 use Rattle.hv_program.proofs.background.ask_for_due.Goals as goal
 
@@ -93,3 +94,8 @@ returns-in-Err-clause-shut g c =
     stops-shut g.D.Shelf.faults c.args.house.now c.initiate.new.actor c.initiate.ensures.later c.requires.whole.ready.kept.running c.in-Err.why c.fault_of.result c.fault_of.ensures
     (asked-shut g.D.Shelf.told g.D.Shelf.faults (own_alone (seen_in c.args.house.now)) (own_alone (seen_in c.initiate.new.actor)) c.args.house.now c.initiate.new.actor c.in-Err.why
     (err-of c.initiate.result _ c.in-Err.why c.in-Err.is c.initiate.ensures.less))
+
+pub returns-in-Err-clause-stopped : goal.returns-in-Err-clause-stopped
+returns-in-Err-clause-stopped g c =
+    asked-stopped g.D.Shelf.told g.D.Shelf.faults (own_alone (seen_in c.args.house.now)) (own_alone (seen_in c.initiate.new.actor)) c.args.house.now c.initiate.new.actor c.in-Err.why c.fault_of.result c.fault_of.ensures c.initiate.ensures.later c.initiate.ensures.keeps.0 c.requires.begun
+    (err-of c.initiate.result _ c.in-Err.why c.in-Err.is c.initiate.ensures.less)

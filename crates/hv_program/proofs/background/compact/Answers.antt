@@ -1,7 +1,10 @@
 use Rattle.std.proofs.Common.{sym, ◌∙◌}
+use Rattle.hv_session.specs.hv_beginning.specs.hv_steps.specs.hv_table_reader.specs.hv_acts.specs.hv_telling.specs.hv_house.specs.declared.fault.HouseFault.{HouseFault}
 use Rattle.hv_session.specs.hv_beginning.specs.hv_steps.specs.hv_table_reader.specs.hv_acts.specs.hv_telling.proofs.Told.{told-stays}
 use Rattle.hv_program.specs.Background.{IsCompacting}
-use Rattle.hv_program.proofs.Passed.{ok-of, err-of, ok-then, later-then, beside-then, cause-then}
+use Rattle.hv_program.specs.Beside.{StopsBeside}
+use Rattle.hv_program.proofs.Leaving.{beside-some, stops-then}
+use Rattle.hv_program.proofs.Passed.{ok-of, err-of, err-then, ok-then, later-then, beside-then, cause-then}
 use Rattle.hv_program.proofs.background.compact.Goals as goal
 
 pub do_one-requires-clause-whole : goal.do_one-requires-clause-whole
@@ -11,6 +14,21 @@ do_one-requires-clause-whole g c =
 pub do_one-requires-clause-hard : goal.do_one-requires-clause-hard
 do_one-requires-clause-hard g c =
     c.ask_for_due.ensures.hard
+
+pub do_one-requires-clause-begun : goal.do_one-requires-clause-begun
+do_one-requires-clause-begun g c =
+    beside-some IsCompacting _ _ (ok-of c.ask_for_due.result _ _ c.in-Ok.is c.ask_for_due.ensures.added) c.requires.begun
+
+pub returns-in-Ok-clause-stopped : goal.returns-in-Ok-clause-stopped
+returns-in-Ok-clause-stopped g c =
+    let first = ok-of c.ask_for_due.result _ _ c.in-Ok.is c.ask_for_due.ensures.added in
+    let whole = ok-of c.ask_for_due.result _ _ c.in-Ok.is c.ask_for_due.ensures.whole in
+    err-then c.do_one.result
+    (λ (why : HouseFault). StopsBeside g.D.Shelf.told IsCompacting why c.ask_for_due.new.house.house c.do_one.new.house.house)
+    (λ (why : HouseFault). StopsBeside g.D.Shelf.told IsCompacting why c.args.house.now.house c.do_one.new.house.house)
+    (λ why next.
+    stops-then g.D.Shelf.told IsCompacting why c.args.house.now.house c.ask_for_due.new.house.house c.do_one.new.house.house c.ask_for_due.ensures.start first whole next)
+    c.do_one.ensures.stopped
 
 pub returns-in-Ok-clause-added : goal.returns-in-Ok-clause-added
 returns-in-Ok-clause-added g c =

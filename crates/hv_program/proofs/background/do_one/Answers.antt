@@ -6,6 +6,7 @@ use Rattle.hv_program.specs.Background.{IsCompacting, WorksOne}
 use Rattle.hv_program.specs.Beside.{AddsBeside}
 use Rattle.hv_program.proofs.Sessions.{is-kept, shuts-kept}
 use Rattle.hv_program.proofs.Passed.{ok-of, err-of, full-ok, stops-err, start-same, still-opens, stops-shut, stops-cause, done-cause}
+use Rattle.hv_program.proofs.Leaves.{one-stopped}
 use Rattle.hv_program.proofs.Worked.{one-done, one-beside, one-some, one-full, one-open, one-shut}
 use Rattle.hv_program.proofs.background.do_one.Goals as goal
 
@@ -95,3 +96,8 @@ returns-in-Err-clause-done g c =
     full-ok c.in-Err.why c.fault_of.result (WorksOne (entries_of c.args.house.now.house) (entries_of c.compact_one.new.actor.house)) c.fault_of.ensures
     (one-full g.D.Shelf.told g.D.Shelf.faults (own_alone (seen_in c.args.house.now)) (own_alone (seen_in c.compact_one.new.actor)) c.args.house.now c.compact_one.new.actor c.in-Err.why
     (err-of c.compact_one.result _ c.in-Err.why c.in-Err.is c.compact_one.ensures.stops))
+
+pub returns-in-Err-clause-stopped : goal.returns-in-Err-clause-stopped
+returns-in-Err-clause-stopped g c =
+    one-stopped g.D.Shelf.told g.D.Shelf.faults (own_alone (seen_in c.args.house.now)) (own_alone (seen_in c.compact_one.new.actor)) c.args.house.now c.compact_one.new.actor c.in-Err.why c.fault_of.result c.fault_of.ensures c.compact_one.ensures.later c.compact_one.ensures.keeps.0 c.requires.begun
+    (err-of c.compact_one.result _ c.in-Err.why c.in-Err.is c.compact_one.ensures.stops)
