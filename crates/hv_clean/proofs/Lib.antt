@@ -10,3 +10,4 @@ pub mod Forgets
 pub mod AloneJobs
 pub mod AloneIds
 pub mod AloneAll
+pub mod AloneSome

@@ -7,8 +7,8 @@ ghost use Rattle.hv_clean.specs.Removing.{counted_as, unless_stopped};
 use crate::fault::{Swept, count_fault};
 use hv_compact::RunFault;
 use hv_compact::hv_job_acts::JobActFault;
-use hv_compact::hv_job_acts::hv_job_calls::JobFault;
 use hv_compact::hv_job_acts::hv_acts::hv_telling::hv_house::HouseFault;
+use hv_compact::hv_job_acts::hv_job_calls::JobFault;
 
 /// Why an act of a cleaner was refusal_of, as far as the pass asks.
 #[derive(Clone, Copy)]
