@@ -20,8 +20,8 @@ use Rattle.hv_program.specs.hv_clean.specs.hv_compact.specs.hv_job_acts.specs.hv
 use Rattle.hv_program.specs.hv_clean.specs.hv_compact.specs.hv_job_acts.specs.Work.{parts_in, lost_in}
 use Rattle.hv_program.specs.hv_clean.specs.hv_compact.specs.Initiating.{asks_kind, asks_for}
 use Rattle.hv_program.specs.hv_clean.specs.hv_compact.specs.Alone.{initiated_from}
-use Rattle.hv_program.specs.hv_clean.specs.Alone.{forgot_entry}
-use Rattle.hv_program.specs.Background.{LacksRoomFor, IsCleaning, Initiated, IsEndOfJob, TakesUp, WorksAt, Compacts, free_in, IsWholePass}
+use Rattle.hv_program.specs.hv_clean.specs.Alone.{free_in, forgot_entry}
+use Rattle.hv_program.specs.Background.{LacksRoomFor, IsCleaning, Initiated, IsEndOfJob, TakesUp, WorksAt, Compacts, IsWholePass}
 use Rattle.hv_law_serial.specs.Passes.{asked_if, asked_turn, asked_turns, is_empty_one, ended_if, ended_of, worked_if, worked, compacted, noted_if, noted_each, cleaned}
 use Rattle.hv_law_serial.specs.History.{IsNoFailure, AddsNoFailure}
 
@@ -174,22 +174,42 @@ cleaning-room s (entry.Forgot table write) is fits =
     some-such (numbered s.tables table.0) (ForgotFits profile s write.0) (load s + 1 ≤ profile.entries) (λ t fits_. fits_.room) fits
 cleaning-room s event is fits = absurd is
 
-noted-same : (book events : List Entry) → IsLegal profile (book ++ events) → AllByRecursion IsCleaning events → noted_each book events ≡ book ++ events
-noted-same book [] legal each = sym (append-nil book)
-noted-same book (event ∷ events) legal each =
+noted-same : (book events rest : List Entry) → IsLegal profile (book ++ events) → AllByRecursion IsCleaning events
+    → noted_each book (events ++ rest) ≡ noted_each (book ++ events) rest
+noted-same book [] rest legal each = ap (λ (b : List Entry). noted_each b rest) (sym (append-nil book))
+noted-same book (event ∷ events) rest legal each =
     let fits = (legal-parts book (event ∷ events) legal).behind.fit.0 in
     let joined : (book ++ event ∷ []) ++ events ≡ book ++ event ∷ events = append_assoc book (event ∷ []) events in
-    ap (λ (b : Bool). noted_each (noted_if b book event) events) (roomy (state_of book) 1 (cleaning-room (state_of book) event each.0 fits))
-    ∙ noted-same (book ++ event ∷ []) events (subst (IsLegal profile) (sym joined) legal) each.1
-    ∙ joined
+    ap (λ (b : Bool). noted_each (noted_if b book event) (events ++ rest)) (roomy (state_of book) 1 (cleaning-room (state_of book) event each.0 fits))
+    ∙ noted-same (book ++ event ∷ []) events rest (subst (IsLegal profile) (sym joined) legal) each.1
+    ∙ ap (λ (b : List Entry). noted_each b rest) joined
+
+-- where there is no room nothing more is noted
+none-noted : (book rest : List Entry) → lacks_room (state_of book) 1 ≡ true → noted_each book rest ≡ book
+none-noted book [] lacks = refl
+none-noted book (event ∷ rest) lacks = ap (λ (b : Bool). noted_each (noted_if b book event) rest) lacks ∙ none-noted book rest lacks
+
+left-same : (book rest : List Entry) → (rest ≡ []) ⊎ LacksRoomFor book 1 → noted_each book rest ≡ book
+left-same book rest (inl none) = ap (noted_each book) none
+left-same book rest (inr lacks) = none-noted book rest (lacking book 1 lacks)
 
 cleaned-kind : (jobs : List JobId) (ids : List LostId) → AllByRecursion IsCleaning (map entry.Cleaned jobs ++ map forgot_entry ids)
 cleaned-kind [] [] = tt
 cleaned-kind [] (id ∷ ids) = (tt, cleaned-kind [] ids)
 cleaned-kind (job ∷ jobs) ids = (tt, cleaned-kind jobs ids)
 
+all-front : (P : Entry → Type 0) (xs ys : List Entry) → AllByRecursion P (xs ++ ys) → AllByRecursion P xs
+all-front P [] ys all = tt
+all-front P (x ∷ xs) ys all = (all.0, all-front P xs ys all.1)
+
 pub cleans-same : (before now : List Entry) → IsWholePass before now → IsLegal profile now → now ≡ cleaned before
 cleans-same before now whole legal =
-    whole
-    ∙ sym (noted-same before (map entry.Cleaned (free_in before) ++ map forgot_entry (lost_in (state_of before))) (subst (IsLegal profile) whole legal)
-    (cleaned-kind (free_in before) (lost_in (state_of before))))
+    let kinds : AllByRecursion IsCleaning whole.noted =
+    all-front IsCleaning whole.noted whole.rest
+    (subst (AllByRecursion IsCleaning) whole.all_are (cleaned-kind (free_in before) (lost_in (state_of before)))) in
+    let same : cleaned before ≡ now =
+    ap (noted_each before) whole.all_are
+    ∙ noted-same before whole.noted whole.rest (subst (IsLegal profile) whole.goes legal) kinds
+    ∙ ap (λ (b : List Entry). noted_each b whole.rest) (sym whole.goes)
+    ∙ left-same now whole.rest whole.ends in
+    sym same

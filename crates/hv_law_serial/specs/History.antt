@@ -38,7 +38,7 @@ IsNoFailure event = Unit {0}
 abbrev pub AddsNoFailure : List Entry → List Entry → Type 0
 AddsNoFailure start book = (added : List Entry) → book ≡ start ++ added → AllByRecursion IsNoFailure added
 
--- no pass of a cleaner left anything out
+-- no pass of a cleaner left anything out but for want of room
 abbrev pub PassesWhole : Standing → Standing → Action → Type 0
 PassesWhole before now action.Clean = IsWholePass before.book now.book
 PassesWhole before now other = Unit {0}
@@ -51,7 +51,7 @@ AreWholePasses books before now (first ∷ more) output refused done =
     PassesWhole before done.0 first × AreWholePasses books done.0 now more done.2 done.4 done.6
 
 -- A run in which no device failed and memory was found: no compaction was given up then, and no pass of a cleaner left
--- anything out.
+-- anything out but for want of room.
 pub record RanSteadily (start : List Entry) (now : Standing) (actions : List Action) (output : List ℕ) (refused : Bool)
     (done : AreDone (from_to start now.book) (beginning start) now actions output refused) : Type 0 where
   pub legal : IsLegal profile now.book

@@ -1,6 +1,6 @@
 -- What one thread adds to a book by a script's `!compact` and `!clean`: a pass and a job end at the first entry without room.
 -- Source: Hive Transactions, compactor and cleaner; the journal's room is this project's.
-use Rattle.std.specs.Prelude.{ℕ, Bool, true, false, Option, Some, None, List, [], ◌∷◌, ◌++◌, map}
+use Rattle.std.specs.Prelude.{ℕ, Bool, true, false, Option, Some, None, List, [], ◌∷◌, ◌++◌}
 use Rattle.hv_history.specs.declared.entry.Entry.{Entry}
 use Rattle.hv_history.specs.declared.entry.Entry.TheVariants as entry
 use Rattle.hv_history.specs.declared.entry.JobKind.{JobKind}
@@ -9,9 +9,8 @@ use Rattle.hv_history.specs.Jobs.{due, pieces_for, is_empty_of}
 use Rattle.hv_law_next.specs.Next.{lacks_room}
 use Rattle.hv_program.specs.hv_clean.specs.hv_compact.specs.hv_job_acts.specs.declared.asking.PartAt.{PartAt}
 use Rattle.hv_program.specs.hv_clean.specs.hv_compact.specs.hv_job_acts.specs.hv_job_calls.specs.Refusals.{asking, picking, to_pick, publishing_of}
-use Rattle.hv_program.specs.hv_clean.specs.hv_compact.specs.hv_job_acts.specs.Work.{parts_in, lost_in}
-use Rattle.hv_program.specs.hv_clean.specs.Alone.{forgot_entry}
-use Rattle.hv_program.specs.Background.{free_in}
+use Rattle.hv_program.specs.hv_clean.specs.hv_compact.specs.hv_job_acts.specs.Work.{parts_in}
+use Rattle.hv_program.specs.Background.{cleaning_of}
 
 -- ---- a pass of an initiator: what is due in each partition at its turn is asked for
 
@@ -64,4 +63,4 @@ noted_each book [] = book
 noted_each book (event ∷ events) = noted_each (noted_if (lacks_room (state_of book) 1) book event) events
 
 abbrev pub cleaned : List Entry → List Entry
-cleaned book = noted_each book (map entry.Cleaned (free_in book) ++ map forgot_entry (lost_in (state_of book)))
+cleaned book = noted_each book (cleaning_of book)

@@ -40,8 +40,10 @@ use Rattle.hv_clean.specs.hv_compact.specs.Alone.{initiated_from}
 use Rattle.hv_clean.specs.hv_compact.proofs.Alones.{alone-added, turned-alone}
 use Rattle.hv_clean.specs.declared.fault.Swept.{Swept}
 use Rattle.hv_clean.specs.Passing.{IsPassed, SweepsLess, Passes, IsCleaning as IsSweeping, RunsOut as CleansOut}
+use Rattle.hv_clean.specs.Alone.{SweepsSome}
 use Rattle.hv_clean.proofs.Moved.{moves-pass}
-use Rattle.hv_program.specs.Background.{LacksRoomFor, IsCompacting, IsCleaning, Initiated}
+use Rattle.hv_clean.proofs.AloneSome.{passes-some}
+use Rattle.hv_program.specs.Background.{LacksRoomFor, IsCompacting, IsCleaning, Initiated, Cleans}
 use Rattle.hv_program.specs.Beside.{fault_of, AddsBeside}
 use Rattle.hv_program.specs.Stops.{IsShutFor}
 use Rattle.hv_program.proofs.OwnEntries.{all-append}
@@ -243,6 +245,12 @@ module _ {D : Type 0} (told : D → Option Store) (faults : D → ℕ) (own own'
   swept-beside swept pass =
       let moves = moves-pass told faults Nothing nothing_rows Untouched (known own before) (known own' now) swept pass in
       record { added = book_of moves.items; book = swept-gained moves.items moves.adds; of_it = passed-kind moves.items moves.each }
+
+  pub swept-done : (swept : Swept) → Passes Lonely (known own before) (known own' now) swept → Cleans (entries_of before.house) (entries_of now.house)
+  swept-done swept pass =
+      subst (λ (book : List Entry). SweepsSome book (entries_of now.house)) (book-is before.house)
+      (subst (SweepsSome (book_in before)) (book-is now.house)
+      (passes-some told faults Nothing nothing_rows Untouched nothing-is-added (known own before) (known own' now) swept pass))
 
   pub swept-some : (why : RunFault) → SweepsLess Lonely (known own before) (known own' now) why
       → AddsBeside IsCleaning (entries_of before.house) (entries_of now.house)

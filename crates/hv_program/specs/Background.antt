@@ -1,18 +1,17 @@
 -- What a script's `!compact` and `!clean` add to a book: entries of compactions and of cleaning alone, each by the book behind the ones
 -- before it.
 -- Source: Hive Transactions, compactor and cleaner; that a pass or a job ends at the first entry without room is this project's profile.
-use Rattle.std.specs.Prelude.{◌≡◌, ◌⊎◌, ℕ, ◌+◌, ◌<◌, Option, Some, None, List, [], ◌∷◌, ◌++◌, map, filter}
+use Rattle.std.specs.Prelude.{◌≡◌, ◌⊎◌, ℕ, ◌+◌, ◌<◌, Option, Some, None, List, [], ◌∷◌, ◌++◌, map}
 use Rattle.hv_base.specs.declared.ids.JobId.{JobId}
 use Rattle.hv_history.specs.declared.entry.Entry.{Entry}
 use Rattle.hv_history.specs.declared.entry.Entry.TheVariants as entry
 use Rattle.hv_history.specs.State.{state_of}
 use Rattle.hv_history.specs.Legal.{load, profile}
 use Rattle.hv_clean.specs.hv_compact.specs.hv_job_acts.specs.declared.asking.PartAt.{PartAt}
-use Rattle.hv_clean.specs.hv_compact.specs.hv_job_acts.specs.declared.asking.LostId.{LostId}
 use Rattle.hv_clean.specs.hv_compact.specs.hv_job_acts.specs.hv_job_calls.specs.Refusals.{picking, to_pick, publishing_of}
-use Rattle.hv_clean.specs.hv_compact.specs.hv_job_acts.specs.Work.{parts_in, ready_in, lost_in}
+use Rattle.hv_clean.specs.hv_compact.specs.hv_job_acts.specs.Work.{parts_in, lost_in}
 use Rattle.hv_clean.specs.hv_compact.specs.Alone.{initiated_from}
-use Rattle.hv_clean.specs.Alone.{is_free, forgot_entry}
+use Rattle.hv_clean.specs.Alone.{free_in, forgot_entry, SweepsSome}
 
 -- so many more of the load would pass the journal's limit
 abbrev pub LacksRoomFor : List Entry → ℕ → Type 0
@@ -77,28 +76,19 @@ pub record Compacts (before now : List Entry) : Type 0 where
 
 -- ---- a pass of a cleaner
 
--- some of these, in their order
-abbrev pub AreSome : {T : Type 0} → List T → List T → Type 0
-AreSome [] all = Unit {0}
-AreSome (x ∷ some) [] = ⊥
-AreSome (x ∷ some) (y ∷ all) = ((x ≡ y) × AreSome some all) ⊎ AreSome (x ∷ some) all
-
--- the jobs of live tables that are ready, and below whose mark no transaction is open
-abbrev pub free_in : List Entry → List JobId
-free_in book = filter (is_free (state_of book)) (ready_in (state_of book))
-
-abbrev pub swept_by : List Entry → List JobId → List LostId → List Entry
-swept_by book jobs ids = book ++ map entry.Cleaned jobs ++ map forgot_entry ids
-
 -- Jobs that nobody needs any more were noted as cleaned, and then aborted write ids as forgotten. What is left out is left to a later pass:
 -- where a call on files failed, where a directory is listed still, or where there is no room.
-pub record Cleans (before now : List Entry) : Type 0 where
-  pub jobs : List JobId
-  pub ids : List LostId
-  pub are_free : AreSome jobs (free_in before)
-  pub are_lost : AreSome ids (lost_in (state_of before))
-  pub goes : now ≡ swept_by before jobs ids
+abbrev pub Cleans : List Entry → List Entry → Type 0
+Cleans before now = SweepsSome before now
 
--- it left nothing out
-abbrev pub IsWholePass : List Entry → List Entry → Type 0
-IsWholePass before now = now ≡ swept_by before (free_in before) (lost_in (state_of before))
+-- what a pass has to note
+abbrev pub cleaning_of : List Entry → List Entry
+cleaning_of book = map entry.Cleaned (free_in book) ++ map forgot_entry (lost_in (state_of book))
+
+-- it left nothing out, but what there was no room for
+pub record IsWholePass (before now : List Entry) : Type 0 where
+  pub noted : List Entry
+  pub rest : List Entry
+  pub all_are : cleaning_of before ≡ noted ++ rest
+  pub goes : now ≡ before ++ noted
+  pub ends : (rest ≡ []) ⊎ LacksRoomFor now 1

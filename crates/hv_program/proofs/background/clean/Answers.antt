@@ -6,7 +6,7 @@ use Rattle.hv_program.specs.Background.{IsCleaning}
 use Rattle.hv_program.specs.Beside.{AddsBeside}
 use Rattle.hv_program.proofs.Sessions.{is-kept, shuts-kept}
 use Rattle.hv_program.proofs.Leaves.{swept-stopped}
-use Rattle.hv_program.proofs.Passed.{ok-of, err-of, full-ok, stops-err, start-same, still-opens, stops-shut, stops-cause, done-cause, swept-beside, swept-some, cleans-open, cleans-shut}
+use Rattle.hv_program.proofs.Passed.{ok-of, err-of, full-ok, stops-err, start-same, still-opens, stops-shut, stops-cause, done-cause, swept-beside, swept-done, swept-some, cleans-open, cleans-shut}
 use Rattle.hv_program.proofs.background.clean.Goals as goal
 
 pub clean_pass-requires-clause-keeps : goal.clean_pass-requires-clause-keeps
@@ -88,3 +88,8 @@ pub returns-in-Err-clause-stopped : goal.returns-in-Err-clause-stopped
 returns-in-Err-clause-stopped g c =
     swept-stopped g.D.Shelf.told g.D.Shelf.faults (own_alone (seen_in c.args.house.now)) (own_alone (seen_in c.clean_pass.new.actor)) c.args.house.now c.clean_pass.new.actor c.in-Err.why c.fault_of.result c.fault_of.ensures c.clean_pass.ensures.later c.clean_pass.ensures.keeps.0 c.requires.begun
     (err-of c.clean_pass.result _ c.in-Err.why c.in-Err.is c.clean_pass.ensures.less)
+
+pub returns-in-Ok-clause-done : goal.returns-in-Ok-clause-done
+returns-in-Ok-clause-done g c =
+    swept-done g.D.Shelf.told g.D.Shelf.faults (own_alone (seen_in c.args.house.now)) (own_alone (seen_in c.clean_pass.new.actor)) c.args.house.now c.clean_pass.new.actor c.in-Ok._swept
+    (ok-of c.clean_pass.result _ c.in-Ok._swept c.in-Ok.is c.clean_pass.ensures.passes)
