@@ -13,10 +13,10 @@ use Rattle.hv_history.specs.Jobs.{ids_of as table_ids}
 use Rattle.hv_history.specs.JobsFit.{is_aborted_id}
 use Rattle.hv_trail.specs.declared.trail.TrailItem.{TrailItem}
 use Rattle.hv_actor.specs.Acting.{AreRows, Setting, Moment, among, numbers_from}
-use Rattle.hv_compact.specs.hv_job_acts.specs.hv_acts.specs.declared.told.ToldHouse.{ToldHouse}
-use Rattle.hv_compact.specs.hv_job_acts.specs.hv_acts.specs.Told.{book_in}
-use Rattle.hv_compact.specs.hv_job_acts.specs.declared.asking.LostId.{LostId}
-use Rattle.hv_compact.specs.hv_job_acts.specs.Work.{each_of, one_of, id_at, is_lost_at, lost_at, given_in, lost_of, ready_in, lost_in}
+use Rattle.hv_job_acts.specs.hv_acts.specs.declared.told.ToldHouse.{ToldHouse}
+use Rattle.hv_job_acts.specs.hv_acts.specs.Told.{book_in}
+use Rattle.hv_job_acts.specs.declared.asking.LostId.{LostId}
+use Rattle.hv_job_acts.specs.Work.{each_of, one_of, id_at, is_lost_at, lost_at, given_in, lost_of, ready_in, lost_in}
 use Rattle.hv_clean.specs.Passing.{nothing, is_of_table, ids_of, last_from, last_table}
 use Rattle.hv_clean.specs.Alone.{AddsNothing, cleaned_entries, forgot_entry, cleaned_up, PassesAlone}
 use Rattle.hv_clean.proofs.Moved.{all-append}

@@ -18,12 +18,12 @@ use Rattle.hv_trail.specs.declared.trail.TrailItem.TheVariants.{Noted, Marked}
 use Rattle.hv_trail.specs.declared.trail.Mark.TheVariants.{Wrote, Went, Broke}
 use Rattle.hv_trail.specs.Trail.{state_at}
 use Rattle.hv_actor.specs.Acting.{AreRows, Setting, Moment, among}
-use Rattle.hv_compact.specs.hv_job_acts.specs.hv_acts.specs.declared.told.ToldHouse.{ToldHouse}
-use Rattle.hv_compact.specs.hv_job_acts.specs.hv_acts.specs.Told.{book_in}
-use Rattle.hv_compact.specs.hv_job_acts.specs.hv_job_calls.specs.Refusals.{CanForget, IsLostId, IsKeptId, is_live_in}
-use Rattle.hv_compact.specs.hv_job_acts.specs.declared.asking.LostId.{LostId}
-use Rattle.hv_compact.specs.hv_job_acts.specs.Going.{WasAt}
-use Rattle.hv_compact.specs.hv_job_acts.specs.Work.{is_lost_of, is_lost_at}
+use Rattle.hv_job_acts.specs.hv_acts.specs.declared.told.ToldHouse.{ToldHouse}
+use Rattle.hv_job_acts.specs.hv_acts.specs.Told.{book_in}
+use Rattle.hv_job_acts.specs.hv_job_calls.specs.Refusals.{CanForget, IsLostId, IsKeptId, is_live_in}
+use Rattle.hv_job_acts.specs.declared.asking.LostId.{LostId}
+use Rattle.hv_job_acts.specs.Going.{WasAt}
+use Rattle.hv_job_acts.specs.Work.{is_lost_of, is_lost_at}
 use Rattle.hv_clean.specs.declared.fault.Swept.{Swept}
 use Rattle.hv_clean.specs.Passing.{one_more, count_forgotten, count_listed, swept_by, swept_all, Sweeps, Asks, IsForgottenNow, IsIdOver, IdLeft, ForgetsOne, ForgetEach, ids_of, ForgetsTable, ForgetTables}
 use Rattle.hv_clean.specs.Alone.{AddsNothing, forgot_entry}

@@ -21,11 +21,11 @@ use Rattle.hv_trail.specs.declared.trail.TrailItem.TheVariants.{Noted, Marked}
 use Rattle.hv_trail.specs.Trail.{book_of, state_at}
 use Rattle.hv_trail.proofs.LastingLaws.{book-append}
 use Rattle.hv_actor.specs.Acting.{AreRows, Went, Woven, Setting, Moment, among, items_of}
-use Rattle.hv_compact.specs.hv_job_acts.specs.hv_acts.specs.declared.told.ToldHouse.{ToldHouse}
-use Rattle.hv_compact.specs.hv_job_acts.specs.hv_acts.specs.Told.{trail_in, book_in}
-use Rattle.hv_compact.specs.hv_job_acts.specs.hv_job_calls.specs.Refusals.{HasGoneJob, IsHeldBy, holder_by}
-use Rattle.hv_compact.specs.hv_job_acts.specs.Going.{AddsItems, WasAt}
-use Rattle.hv_compact.specs.hv_job_acts.specs.Work.{each_of, job_at, is_ready_in, ready_at, ready_in}
+use Rattle.hv_job_acts.specs.hv_acts.specs.declared.told.ToldHouse.{ToldHouse}
+use Rattle.hv_job_acts.specs.hv_acts.specs.Told.{trail_in, book_in}
+use Rattle.hv_job_acts.specs.hv_job_calls.specs.Refusals.{HasGoneJob, IsHeldBy, holder_by}
+use Rattle.hv_job_acts.specs.Going.{AddsItems, WasAt}
+use Rattle.hv_job_acts.specs.Work.{each_of, job_at, is_ready_in, ready_at, ready_in}
 use Rattle.hv_clean.specs.declared.fault.Swept.{Swept}
 use Rattle.hv_clean.specs.Passing.{count_cleaned, NoFault, IsSwept, Sweeps, Asks, IsHeldAt, IsOver, IsCleanedNow, LeftOf, CleansOne, CleanEach}
 use Rattle.hv_clean.specs.Alone.{AddsNothing, is_free_one, is_free}

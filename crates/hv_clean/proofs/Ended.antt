@@ -24,21 +24,21 @@ use Rattle.hv_trail.specs.Steps.{HouseSeen, Note}
 use Rattle.hv_trail.proofs.LastingLaws.{book-append}
 use Rattle.hv_actor.specs.Acting.{IsLater, AreRows, Setting, Moment, among, known}
 use Rattle.hv_actor.specs.Acting.{Went as HasAdded}
-use Rattle.hv_compact.specs.hv_job_acts.specs.hv_acts.specs.hv_telling.specs.hv_house.specs.declared.fault.HouseFault.TheVariants as house_fault
-use Rattle.hv_compact.specs.hv_job_acts.specs.hv_job_calls.specs.declared.fault.JobFault.TheVariants as fault
-use Rattle.hv_compact.specs.hv_job_acts.specs.hv_job_calls.specs.Refusals.{IsCoveredDir}
-use Rattle.hv_compact.specs.hv_job_acts.specs.hv_acts.specs.declared.told.ToldHouse.{ToldHouse}
-use Rattle.hv_compact.specs.hv_job_acts.specs.hv_acts.specs.Told.{IsWholeOrClosed, seen_in, trail_in}
-use Rattle.hv_compact.specs.hv_job_acts.specs.hv_acts.specs.Going.{IsOpenHouse}
-use Rattle.hv_compact.specs.hv_job_acts.specs.hv_acts.proofs.Steps.{book-is}
-use Rattle.hv_compact.specs.hv_job_acts.specs.declared.fault.JobActFault.{JobActFault}
-use Rattle.hv_compact.specs.hv_job_acts.specs.declared.fault.JobActFault.TheVariants as act
-use Rattle.hv_compact.specs.hv_job_acts.specs.Answers.{act_call, answer_call, adds_by}
-use Rattle.hv_compact.specs.hv_job_acts.specs.Doing.{CleansSo}
-use Rattle.hv_compact.specs.hv_job_acts.specs.Covering.{AreNamesOf}
-use Rattle.hv_compact.specs.hv_job_acts.specs.Going.{WasAt}
-use Rattle.hv_compact.specs.hv_job_acts.specs.Work.{AreCovered}
-use Rattle.hv_compact.specs.declared.fault.RunFault.{RunFault}
+use Rattle.hv_job_acts.specs.hv_acts.specs.hv_telling.specs.hv_house.specs.declared.fault.HouseFault.TheVariants as house_fault
+use Rattle.hv_job_acts.specs.hv_job_calls.specs.declared.fault.JobFault.TheVariants as fault
+use Rattle.hv_job_acts.specs.hv_job_calls.specs.Refusals.{IsCoveredDir}
+use Rattle.hv_job_acts.specs.hv_acts.specs.declared.told.ToldHouse.{ToldHouse}
+use Rattle.hv_job_acts.specs.hv_acts.specs.Told.{IsWholeOrClosed, seen_in, trail_in}
+use Rattle.hv_job_acts.specs.hv_acts.specs.Going.{IsOpenHouse}
+use Rattle.hv_job_acts.specs.hv_acts.proofs.Steps.{book-is}
+use Rattle.hv_job_acts.specs.declared.fault.JobActFault.{JobActFault}
+use Rattle.hv_job_acts.specs.declared.fault.JobActFault.TheVariants as act
+use Rattle.hv_job_acts.specs.Answers.{act_call, answer_call, adds_by}
+use Rattle.hv_job_acts.specs.Doing.{CleansSo}
+use Rattle.hv_job_acts.specs.Covering.{AreNamesOf}
+use Rattle.hv_job_acts.specs.Going.{WasAt}
+use Rattle.hv_job_acts.specs.Work.{AreCovered}
+use Rattle.hv_clean.specs.declared.fault.PassFault.{PassFault}
 use Rattle.hv_clean.specs.declared.fault.Swept.{Swept}
 use Rattle.hv_clean.specs.declared.stopping.Refused.{Refused as WhyRefused}
 use Rattle.hv_clean.specs.declared.cleaning.Removal.{Removal}
@@ -231,11 +231,11 @@ module _ {D : Type 0} (told : D → Option Store) (faults : D → ℕ) (between 
     note-so (act.Call (fault.House house_fault.NoMemory)) from held went behind = tt
     note-so (act.Call (fault.House (house_fault.Failed count))) from held went behind = absurd held.step.may
 
-    pub note-refused : (result : Result (Unit {0}) JobActFault) (why : JobActFault) (from to : Swept) (r : WhyRefused) (answer : Result (Unit {0}) RunFault)
+    pub note-refused : (result : Result (Unit {0}) JobActFault) (why : JobActFault) (from to : Swept) (r : WhyRefused) (answer : Result (Unit {0}) PassFault)
         → result ≡ Err why → NoteHeld result → NoteWent result → r ≡ refusal_of why → to ≡ counted_held r from → answer ≡ unless_stopped r
         → IfOk answer (λ done. EndsTurn Its A B job removed.All from to)
     note-refused result why from to r answer is held went r_is counts ends_ =
-        subst (λ (x : Result (Unit {0}) RunFault). IfOk x (λ done. EndsTurn Its A B job removed.All from to)) (sym ends_)
+        subst (λ (x : Result (Unit {0}) PassFault). IfOk x (λ done. EndsTurn Its A B job removed.All from to)) (sym ends_)
         (subst (λ (t : Swept). IfOk (unless_stopped r) (λ done. EndsTurn Its A B job removed.All from t)) (sym counts)
         (subst (NotedAs from) (sym r_is)
         (note-so why from (subst NoteHeld is held) (subst NoteWent is went) (note-behind result why from is held went))))
@@ -359,7 +359,7 @@ module _ {D : Type 0} (told : D → Option Store) (faults : D → ℕ) (between 
       turn = turn-by removal went says ends_;
     }
 
-    pub turn-ok : (removal : Removal) (result : Result (Unit {0}) RunFault) → WentBy (trail_in b.house) dirs removal
+    pub turn-ok : (removal : Removal) (result : Result (Unit {0}) PassFault) → WentBy (trail_in b.house) dirs removal
         → RemovalSays a.house b.house job f m removal → IfOk result (λ done. EndsTurn Its b c job removal m t) → IfOk result (λ done. CleansOne Its z c job f t)
     turn-ok removal (Ok done) went says ends_ = turn-done removal went says ends_
     turn-ok removal (Err why) went says ends_ = tt

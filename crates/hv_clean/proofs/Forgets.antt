@@ -22,22 +22,22 @@ use Rattle.hv_trail.specs.Steps.{HouseSeen, Call, Note, Read, Ask, shuts}
 use Rattle.hv_actor.specs.Acting.{IsLater, AreRows, Setting, Moment, among, known, numbers_from}
 use Rattle.hv_actor.specs.Acting.{Went as HasAdded}
 use Rattle.hv_actor.proofs.Weaving.{numbers-more}
-use Rattle.hv_compact.specs.hv_job_acts.specs.hv_acts.specs.hv_telling.specs.hv_house.specs.declared.fault.HouseFault.TheVariants as house_fault
-use Rattle.hv_compact.specs.hv_job_acts.specs.hv_job_calls.specs.declared.fault.JobFault.TheVariants as fault
-use Rattle.hv_compact.specs.hv_job_acts.specs.hv_job_calls.specs.Refusals.{IsLostId, CanSweep}
-use Rattle.hv_compact.specs.hv_job_acts.specs.hv_acts.specs.declared.told.ToldHouse.{ToldHouse}
-use Rattle.hv_compact.specs.hv_job_acts.specs.hv_acts.specs.Told.{seen_in, trail_in}
-use Rattle.hv_compact.specs.hv_job_acts.specs.hv_acts.specs.Going.{IsOpenHouse}
-use Rattle.hv_compact.specs.hv_job_acts.specs.declared.fault.JobActFault.{JobActFault}
-use Rattle.hv_compact.specs.hv_job_acts.specs.declared.fault.JobActFault.TheVariants as act
-use Rattle.hv_compact.specs.hv_job_acts.specs.declared.asking.LostId.{LostId}
-use Rattle.hv_compact.specs.hv_job_acts.specs.Answers.{answer_call, act_outcome}
-use Rattle.hv_compact.specs.hv_job_acts.specs.Doing.{ForgetsSo}
-use Rattle.hv_compact.specs.hv_job_acts.specs.Forgetting.{call_to_forget, why_to_forget, adds_forgotten}
-use Rattle.hv_compact.specs.hv_job_acts.specs.Reading.{PlacesSo}
-use Rattle.hv_compact.specs.hv_job_acts.specs.Going.{WasAt}
-use Rattle.hv_compact.specs.hv_job_acts.specs.Work.{each_of, one_of, job_at, is_ready_in, ready_at, ready_in, id_at, is_lost_at, lost_at, lost_of, given_in, lost_in}
-use Rattle.hv_compact.specs.declared.fault.RunFault.{RunFault}
+use Rattle.hv_job_acts.specs.hv_acts.specs.hv_telling.specs.hv_house.specs.declared.fault.HouseFault.TheVariants as house_fault
+use Rattle.hv_job_acts.specs.hv_job_calls.specs.declared.fault.JobFault.TheVariants as fault
+use Rattle.hv_job_acts.specs.hv_job_calls.specs.Refusals.{IsLostId, CanSweep}
+use Rattle.hv_job_acts.specs.hv_acts.specs.declared.told.ToldHouse.{ToldHouse}
+use Rattle.hv_job_acts.specs.hv_acts.specs.Told.{seen_in, trail_in}
+use Rattle.hv_job_acts.specs.hv_acts.specs.Going.{IsOpenHouse}
+use Rattle.hv_job_acts.specs.declared.fault.JobActFault.{JobActFault}
+use Rattle.hv_job_acts.specs.declared.fault.JobActFault.TheVariants as act
+use Rattle.hv_job_acts.specs.declared.asking.LostId.{LostId}
+use Rattle.hv_job_acts.specs.Answers.{answer_call, act_outcome}
+use Rattle.hv_job_acts.specs.Doing.{ForgetsSo}
+use Rattle.hv_job_acts.specs.Forgetting.{call_to_forget, why_to_forget, adds_forgotten}
+use Rattle.hv_job_acts.specs.Reading.{PlacesSo}
+use Rattle.hv_job_acts.specs.Going.{WasAt}
+use Rattle.hv_job_acts.specs.Work.{each_of, one_of, job_at, is_ready_in, ready_at, ready_in, id_at, is_lost_at, lost_at, lost_of, given_in, lost_in}
+use Rattle.hv_clean.specs.declared.fault.PassFault.{PassFault}
 use Rattle.hv_clean.specs.declared.fault.Swept.{Swept}
 use Rattle.hv_clean.specs.declared.stopping.Refused.{Refused as WhyRefused}
 use Rattle.hv_clean.specs.declared.stopping.Refused.TheVariants as refused_as
@@ -165,11 +165,11 @@ module _ {D : Type 0} (told : D → Option Store) (faults : D → ℕ) (between 
     turn-so (act.Call (fault.House (house_fault.Failed count))) from held s =
         ends-so from (count_fault from) (count_fault from) s (inr (λ none. absurd (fault-tells from none), refl))
 
-    pub forget-refused : (result : Result (Unit {0}) JobActFault) (why : JobActFault) (from to : Swept) (r : WhyRefused) (answer : Result (Unit {0}) RunFault)
+    pub forget-refused : (result : Result (Unit {0}) JobActFault) (why : JobActFault) (from to : Swept) (r : WhyRefused) (answer : Result (Unit {0}) PassFault)
         → result ≡ Err why → ForgetHeld result → ForgetWent result → r ≡ refusal_of why → to ≡ counted_id r from → answer ≡ unless_stopped r
         → IfOk answer (λ done. ForgetsOne Its A B id from to)
     forget-refused result why from to r answer is held went r_is counts ends_ =
-        subst (λ (x : Result (Unit {0}) RunFault). IfOk x (λ done. ForgetsOne Its A B id from to)) (sym ends_)
+        subst (λ (x : Result (Unit {0}) PassFault). IfOk x (λ done. ForgetsOne Its A B id from to)) (sym ends_)
         (subst (λ (t : Swept). IfOk (unless_stopped r) (λ done. ForgetsOne Its A B id from t)) (sym counts)
         (subst (TurnAs from) (sym r_is) (turn-so why from (subst ForgetHeld is held) (forget-behind result why from is held went))))
 
@@ -200,10 +200,10 @@ module _ {D : Type 0} (told : D → Option Store) (faults : D → ℕ) (between 
     list-so (act.Call (fault.House (house_fault.Failed count))) from held = fault-tells from
 
     pub listed-refused : (result : Result (Vec Place) JobActFault) (why : JobActFault) (from to : Swept) (r : WhyRefused)
-        (answer : Result (Option (Vec Place)) RunFault) → result ≡ Err why → ListHeld result → r ≡ refusal_of why → to ≡ counted_as r from → answer ≡ not_listed r
+        (answer : Result (Option (Vec Place)) PassFault) → result ≡ Err why → ListHeld result → r ≡ refusal_of why → to ≡ counted_as r from → answer ≡ not_listed r
         → IfOk answer (λ places. IsListedBy places from to)
     listed-refused result why from to r answer is held r_is counts ends_ =
-        subst (λ (x : Result (Option (Vec Place)) RunFault). IfOk x (λ places. IsListedBy places from to)) (sym ends_)
+        subst (λ (x : Result (Option (Vec Place)) PassFault). IfOk x (λ places. IsListedBy places from to)) (sym ends_)
         (subst (λ (t : Swept). IfOk (not_listed r) (λ places. IsListedBy places from t)) (sym counts)
         (subst (ListedAs from) (sym r_is) (list-so why from (subst ListHeld is held))))
 
@@ -225,17 +225,17 @@ module _ {D : Type 0} (told : D → Option Store) (faults : D → ℕ) (between 
     unlisted-less from refused_as.Over s = tt
     unlisted-less from (refused_as.Stop f) s = s
 
-    pub list-sweeps : (from to : Swept) (why r : WhyRefused) (answer : Result (Option (Vec Place)) RunFault) → r ≡ why → to ≡ counted_as r from
+    pub list-sweeps : (from to : Swept) (why r : WhyRefused) (answer : Result (Option (Vec Place)) PassFault) → r ≡ why → to ≡ counted_as r from
         → answer ≡ not_listed r → ReadBehind from why → IfOk answer (λ places. Sweeps Its (known own before) (known own' now) from to)
     list-sweeps from to why r answer is counts ends_ s =
-        subst (λ (x : Result (Option (Vec Place)) RunFault). IfOk x (λ places. Sweeps Its (known own before) (known own' now) from to)) (sym ends_)
+        subst (λ (x : Result (Option (Vec Place)) PassFault). IfOk x (λ places. Sweeps Its (known own before) (known own' now) from to)) (sym ends_)
         (subst (λ (t : Swept). IfOk (not_listed r) (λ places. Sweeps Its (known own before) (known own' now) from t)) (sym counts)
         (unlisted-sweeps from r (subst (ReadBehind from) (sym is) s)))
 
-    pub list-less : (from : Swept) (why r : WhyRefused) (answer : Result (Option (Vec Place)) RunFault) → r ≡ why → answer ≡ not_listed r
+    pub list-less : (from : Swept) (why r : WhyRefused) (answer : Result (Option (Vec Place)) PassFault) → r ≡ why → answer ≡ not_listed r
         → ReadBehind from why → IfErr answer (SweepsLess Its (known own before) (known own' now))
     list-less from why r answer is ends_ s =
-        subst (λ (x : Result (Option (Vec Place)) RunFault). IfErr x (SweepsLess Its (known own before) (known own' now))) (sym ends_)
+        subst (λ (x : Result (Option (Vec Place)) PassFault). IfErr x (SweepsLess Its (known own before) (known own' now))) (sym ends_)
         (unlisted-less from r (subst (ReadBehind from) (sym is) s))
 
 -- ---- the ids of a table
@@ -254,7 +254,7 @@ module _ {D : Type 0} (told : D → Option Store) (faults : D → ℕ) (between 
         λ none. listed (subst (λ (x : Swept). NoFault f x) each.1 none),
       )
 
-  pub table-ok : {X T : Type 0} (a b c : Moment (ToldHouse D)) (ids : List LostId) (places : Option T) (f m t : Swept) (result : Result X RunFault)
+  pub table-ok : {X T : Type 0} (a b c : Moment (ToldHouse D)) (ids : List LostId) (places : Option T) (f m t : Swept) (result : Result X PassFault)
       → Sweeps S a b f m → IsListedBy places f m → IfOk result (λ x. ForgetsFound S b c ids places m t) → IfOk result (λ x. ForgetsTable S a c ids f t)
   table-ok a b c ids places f m t (Ok x) s listed each = found-table a b c ids places f m t s listed each
   table-ok a b c ids places f m t (Err why) s listed each = tt

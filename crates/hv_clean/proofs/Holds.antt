@@ -16,18 +16,18 @@ use Rattle.hv_trail.specs.Trail.{book_of}
 use Rattle.hv_trail.specs.Steps.{HouseSeen, Call, Note, Remove, Read, Ask, Closed, Starved, Refused, Failed, MayEnd, gains, shuts, StarvesBy, Outcome}
 use Rattle.hv_actor.specs.Acting.{IsLater, Held, Went, Setting, Moment, among, known}
 use Rattle.hv_actor.proofs.Weaving.{later-further}
-use Rattle.hv_compact.specs.hv_job_acts.specs.hv_acts.specs.hv_telling.specs.hv_house.specs.declared.fault.HouseFault.TheVariants as house_fault
-use Rattle.hv_compact.specs.hv_job_acts.specs.hv_job_calls.specs.declared.fault.JobFault.TheVariants as fault
-use Rattle.hv_compact.specs.hv_job_acts.specs.hv_acts.specs.declared.told.ToldHouse.{ToldHouse}
-use Rattle.hv_compact.specs.hv_job_acts.specs.hv_acts.specs.Told.{seen_in, trail_in, told_sight}
-use Rattle.hv_compact.specs.hv_job_acts.specs.hv_acts.specs.Going.{IsOpenHouse}
-use Rattle.hv_compact.specs.hv_job_acts.specs.declared.fault.JobActFault.{JobActFault}
-use Rattle.hv_compact.specs.hv_job_acts.specs.declared.fault.JobActFault.TheVariants as act
-use Rattle.hv_compact.specs.hv_job_acts.specs.Answers.{act_call, act_outcome, answer_call, answer_outcome, adds_by, JobDoes}
-use Rattle.hv_compact.specs.hv_job_acts.specs.Questions.{AnswersSo}
-use Rattle.hv_compact.specs.hv_job_acts.specs.Going.{AddsItems, IsShutFor}
-use Rattle.hv_compact.specs.hv_job_acts.specs.Laters.{job_later}
-use Rattle.hv_compact.specs.declared.fault.RunFault.TheVariants as run
+use Rattle.hv_job_acts.specs.hv_acts.specs.hv_telling.specs.hv_house.specs.declared.fault.HouseFault.TheVariants as house_fault
+use Rattle.hv_job_acts.specs.hv_job_calls.specs.declared.fault.JobFault.TheVariants as fault
+use Rattle.hv_job_acts.specs.hv_acts.specs.declared.told.ToldHouse.{ToldHouse}
+use Rattle.hv_job_acts.specs.hv_acts.specs.Told.{seen_in, trail_in, told_sight}
+use Rattle.hv_job_acts.specs.hv_acts.specs.Going.{IsOpenHouse}
+use Rattle.hv_job_acts.specs.declared.fault.JobActFault.{JobActFault}
+use Rattle.hv_job_acts.specs.declared.fault.JobActFault.TheVariants as act
+use Rattle.hv_job_acts.specs.Answers.{act_call, act_outcome, answer_call, answer_outcome, adds_by, JobDoes}
+use Rattle.hv_job_acts.specs.Questions.{AnswersSo}
+use Rattle.hv_job_acts.specs.Going.{AddsItems, IsShutFor}
+use Rattle.hv_job_acts.specs.Laters.{job_later}
+use Rattle.hv_clean.specs.declared.fault.PassFault.TheVariants as run
 use Rattle.hv_clean.specs.declared.fault.Swept.{Swept}
 use Rattle.hv_clean.specs.declared.stopping.Refused.TheVariants as refused_as
 use Rattle.hv_clean.specs.declared.stopping.Refused.{Refused as WhyRefused}

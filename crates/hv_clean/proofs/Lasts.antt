@@ -22,8 +22,8 @@ use Rattle.hv_law_jobs.proofs.LastLemmas.{jobs-last}
 use Rattle.hv_trail.specs.declared.trail.TrailItem.{TrailItem}
 use Rattle.hv_trail.specs.Trail.{book_of, state_at}
 use Rattle.hv_trail.proofs.LastingLaws.{state-append, goes-on-front}
-use Rattle.hv_compact.specs.hv_job_acts.specs.hv_job_calls.specs.Refusals.{IsCoveredDir, IsLostId, CanSweep}
-use Rattle.hv_compact.specs.hv_job_acts.specs.declared.asking.LostId.{LostId}
+use Rattle.hv_job_acts.specs.hv_job_calls.specs.Refusals.{IsCoveredDir, IsLostId, CanSweep}
+use Rattle.hv_job_acts.specs.declared.asking.LostId.{LostId}
 use Rattle.hv_clean.specs.Removing.{IsKnown, AreKnown, IsCoveredFor, AreCoveredDirs, IsLost, AreLost, AreSweepable, IsDropped, AreTables}
 use Rattle.hv_clean.proofs.Moved.{front-more}
 

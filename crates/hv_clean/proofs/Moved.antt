@@ -13,14 +13,14 @@ use Rattle.hv_actor.specs.Acting.{AreRows, IsLater, Setting, Moment, among, numb
 use Rattle.hv_actor.specs.Rows.{later_itself}
 use Rattle.hv_actor.proofs.Weaving.{went-more, went-itself, later-further}
 use Rattle.hv_base.specs.declared.ids.JobId.{JobId}
-use Rattle.hv_compact.specs.hv_job_acts.specs.hv_acts.specs.declared.told.ToldHouse.{ToldHouse}
-use Rattle.hv_compact.specs.hv_job_acts.specs.hv_acts.specs.Told.{seen_in, trail_in, book_in}
-use Rattle.hv_compact.specs.hv_job_acts.specs.hv_acts.specs.Going.{IsOpenHouse}
-use Rattle.hv_compact.specs.hv_job_acts.specs.declared.asking.LostId.{LostId}
-use Rattle.hv_compact.specs.hv_job_acts.specs.Going.{AddsItems, WasAt}
-use Rattle.hv_compact.specs.hv_job_acts.specs.Work.{ready_in}
-use Rattle.hv_compact.specs.declared.fault.RunFault.{RunFault}
-use Rattle.hv_compact.specs.declared.fault.RunFault.TheVariants as run
+use Rattle.hv_job_acts.specs.hv_acts.specs.declared.told.ToldHouse.{ToldHouse}
+use Rattle.hv_job_acts.specs.hv_acts.specs.Told.{seen_in, trail_in, book_in}
+use Rattle.hv_job_acts.specs.hv_acts.specs.Going.{IsOpenHouse}
+use Rattle.hv_job_acts.specs.declared.asking.LostId.{LostId}
+use Rattle.hv_job_acts.specs.Going.{AddsItems, WasAt}
+use Rattle.hv_job_acts.specs.Work.{ready_in}
+use Rattle.hv_clean.specs.declared.fault.PassFault.{PassFault}
+use Rattle.hv_clean.specs.declared.fault.PassFault.TheVariants as run
 use Rattle.hv_clean.specs.declared.fault.Swept.{Swept}
 use Rattle.hv_clean.specs.Passing.{one_more, count_cleaned, count_forgotten, count_fault, nothing, NoFault, IsSwept, IsPassed, swept_by, swept_all, Asks, Sweeps, SweepsLess, IsHeldAt, IsOver, last_table, lost_now, IsCleanedNow, LeftOf, CleansOne, CleanEach, IsForgottenNow, IsIdOver, IdLeft, ForgetsOne, ForgetEach, ForgetsTable, ids_of, ForgetTables, ForgetsAll, PassesRest, PassesOver, Passes}
 
@@ -203,7 +203,7 @@ module _ {D : Type 0} (told : D → Option Store) (faults : D → ℕ) (between 
 
   -- ---- where it ended
 
-  pub less-behind : (a b c : M) (why : RunFault) → Moves a b → SweepsLess S b c why → SweepsLess S a c why
+  pub less-behind : (a b c : M) (why : PassFault) → Moves a b → SweepsLess S b c why → SweepsLess S a c why
   less-behind a b c why f g = record {
     items = f.items ++ g.items;
     adds = adds-more a b c f.items g.items f.adds g.adds;
@@ -381,16 +381,16 @@ module _ {D : Type 0} (told : D → Option Store) (faults : D → ℕ) (between 
 
   -- ---- by what a call answered
 
-  pub less-up : {T : Type 0} (a b c : M) (result : Result T RunFault) → Moves a b → IfErr result (SweepsLess S b c) → IfErr result (SweepsLess S a c)
+  pub less-up : {T : Type 0} (a b c : M) (result : Result T PassFault) → Moves a b → IfErr result (SweepsLess S b c) → IfErr result (SweepsLess S a c)
   less-up a b c (Ok x) moves less = tt
   less-up a b c (Err why) moves less = less-behind a b c why moves less
 
-  pub sweeps-ok : {T : Type 0} (a b c : M) (f m t : Swept) (result : Result T RunFault) → Sweeps S a b f m → IfOk result (λ x. Sweeps S b c m t)
+  pub sweeps-ok : {T : Type 0} (a b c : M) (f m t : Swept) (result : Result T PassFault) → Sweeps S a b f m → IfOk result (λ x. Sweeps S b c m t)
       → IfOk result (λ x. Sweeps S a c f t)
   sweeps-ok a b c f m t (Ok x) s more = sweeps-then a b c f m t s more
   sweeps-ok a b c f m t (Err why) s more = tt
 
-  pub id-ok : {T : Type 0} (a b c : M) (id : LostId) (f m t : Swept) (result : Result T RunFault) → Sweeps S a b f m
+  pub id-ok : {T : Type 0} (a b c : M) (id : LostId) (f m t : Swept) (result : Result T PassFault) → Sweeps S a b f m
       → IfOk result (λ x. ForgetsOne S b c id m t) → IfOk result (λ x. ForgetsOne S a c id f t)
   id-ok a b c id f m t (Ok x) s one = id-behind a b c id f m t s one
   id-ok a b c id f m t (Err why) s one = tt
@@ -400,7 +400,7 @@ module _ {D : Type 0} (told : D → Option Store) (faults : D → ℕ) (between 
   ids-append a b c (first ∷ xs) ys f m t each more = (each.0, each.1, each.2, ids-append each.0 b c xs ys each.1 m t each.3 more)
 
   -- one id alone
-  pub one-ok : {T : Type 0} (a b : M) (id : LostId) (ids : List LostId) (f t : Swept) (result : Result T RunFault) → ids ≡ id ∷ []
+  pub one-ok : {T : Type 0} (a b : M) (id : LostId) (ids : List LostId) (f t : Swept) (result : Result T PassFault) → ids ≡ id ∷ []
       → IfOk result (λ x. ForgetsOne S a b id f t) → IfOk result (λ x. ForgetEach S a b ids f t)
   one-ok a b id ids f t (Ok x) is one =
       subst (λ (xs : List LostId). ForgetEach S a b xs f t) (sym is) (b, t, one, sweeps-none b t (moves-id a b id f t one).running)
@@ -409,7 +409,7 @@ module _ {D : Type 0} (told : D → Option Store) (faults : D → ℕ) (between 
   pub none-ok : (a : M) (ids : List LostId) (f : Swept) → IsOpenHouse a.house → ids ≡ [] → ForgetEach S a a ids f f
   none-ok a ids f running none = subst (λ (xs : List LostId). ForgetEach S a a xs f f) (sym none) (sweeps-none a f running)
 
-  pub all-ok : {T : Type 0} (a b c : M) (ids : List LostId) (f t : Swept) (result : Result T RunFault) → Asks S a b → ids ≡ lost_now b.house
+  pub all-ok : {T : Type 0} (a b c : M) (ids : List LostId) (f t : Swept) (result : Result T PassFault) → Asks S a b → ids ≡ lost_now b.house
       → IfOk result (λ x. ForgetTables S b c (numbers_from 1 (last_table ids)) ids f t) → IfOk result (λ x. ForgetsAll S a c f t)
   all-ok a b c ids f t (Ok x) asks is each = record {
     start = b;
@@ -418,28 +418,28 @@ module _ {D : Type 0} (told : D → Option Store) (faults : D → ℕ) (between 
   }
   all-ok a b c ids f t (Err why) asks is each = tt
 
-  pub rest-ok : (a b c : M) (f m : Swept) (result : Result Swept RunFault) → ForgetsAll S a b f m → IfOk result (Sweeps S b c m)
+  pub rest-ok : (a b c : M) (f m : Swept) (result : Result Swept PassFault) → ForgetsAll S a b f m → IfOk result (Sweeps S b c m)
       → IfOk result (PassesRest S a c f)
   rest-ok a b c f m (Ok t) ids s = record { left = b; swept = m; ids = ids; sweeps = s }
   rest-ok a b c f m (Err why) ids s = tt
 
-  pub over-ok : (a b c : M) (jobs : List JobId) (m : Swept) (result : Result Swept RunFault) → CleanEach S a b jobs nothing m
+  pub over-ok : (a b c : M) (jobs : List JobId) (m : Swept) (result : Result Swept PassFault) → CleanEach S a b jobs nothing m
       → IfOk result (PassesRest S b c m) → IfOk result (PassesOver S a c jobs)
   over-ok a b c jobs m (Ok t) turns rest = record { left = b; swept = m; turns = turns; rest = rest }
   over-ok a b c jobs m (Err why) turns rest = tt
 
-  pub pass-ok : (a b c : M) (jobs : List JobId) (result : Result Swept RunFault) → Asks S a b → jobs ≡ ready_in (state_of (book_in b.house))
+  pub pass-ok : (a b c : M) (jobs : List JobId) (result : Result Swept PassFault) → Asks S a b → jobs ≡ ready_in (state_of (book_in b.house))
       → IfOk result (PassesOver S b c jobs) → IfOk result (Passes S a c)
   pass-ok a b c jobs (Ok t) asks is over =
       record { start = b; asks = asks; over = subst (λ (xs : List JobId). PassesOver S b c xs t) is over }
   pass-ok a b c jobs (Err why) asks is over = tt
 
-  pub pass-later : (a b c : M) (jobs : List JobId) (result : Result Swept RunFault) → Asks S a b → IfOk result (PassesOver S b c jobs)
+  pub pass-later : (a b c : M) (jobs : List JobId) (result : Result Swept PassFault) → Asks S a b → IfOk result (PassesOver S b c jobs)
       → IfErr result (SweepsLess S b c) → IsLater faults (seen_in a.house) (seen_in c.house)
   pass-later a b c jobs (Ok t) asks over less = (moves-then a b c (moves-asks a b asks) (moves-over b c jobs t over)).adds.later
   pass-later a b c jobs (Err why) asks over less = (less-behind a b c why (moves-asks a b asks) less).adds.later
 
-  pub pass-running : (b c : M) (jobs : List JobId) (result : Result Swept RunFault) → IfOk result (PassesOver S b c jobs)
+  pub pass-running : (b c : M) (jobs : List JobId) (result : Result Swept PassFault) → IfOk result (PassesOver S b c jobs)
       → IfOk result (λ swept. IsOpenHouse c.house)
   pass-running b c jobs (Ok t) over = (moves-over b c jobs t over).running
   pass-running b c jobs (Err why) over = tt

@@ -25,7 +25,7 @@ use Rattle.hv_law_made.specs.Named.{HasNamedRange}
 use Rattle.hv_law_made.specs.Entries.{IsSoundBook}
 use Rattle.hv_law_made.proofs.BookLemmas.{books-are-sound}
 use Rattle.hv_law_made.proofs.NameBounds.{named-range}
-use Rattle.hv_compact.specs.hv_job_acts.specs.Covering.{AreNamesOf}
+use Rattle.hv_job_acts.specs.Covering.{AreNamesOf}
 
 -- ---- write ids
 

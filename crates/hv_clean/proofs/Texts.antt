@@ -9,8 +9,8 @@ use Rattle.hv_dirs.specs.declared.names.DirName.{DirName}
 use Rattle.hv_dirs.specs.declared.names.DirName.TheVariants as dir_name
 use Rattle.hv_dirs.specs.Names.{IsName, text_of}
 use Rattle.hv_stands.specs.Files.{own_dir}
-use Rattle.hv_compact.specs.hv_job_acts.specs.hv_job_calls.specs.Forgetting.{is_own_named}
-use Rattle.hv_compact.specs.hv_job_acts.specs.declared.asking.LostId.{LostId}
+use Rattle.hv_job_acts.specs.hv_job_calls.specs.Forgetting.{is_own_named}
+use Rattle.hv_job_acts.specs.declared.asking.LostId.{LostId}
 use Rattle.hv_clean.specs.Dirs.{IsOwnIf, is_staged_name, IsStagedIf, dir_of_place, IsPutOnce, SweepsIf}
 use Rattle.hv_clean.specs.Removing.{IsLostDir}
 use Rattle.hv_clean.proofs.Moved.{all-append}

@@ -14,18 +14,18 @@ use Rattle.hv_trail.specs.Trail.{state_at, HasGone}
 use Rattle.hv_trail.specs.Steps.{HouseSeen, Remove}
 use Rattle.hv_actor.specs.Acting.{IsLater, AreRows, Setting, Moment, among, known}
 use Rattle.hv_actor.specs.Acting.{Went as HasAdded}
-use Rattle.hv_compact.specs.hv_job_acts.specs.hv_acts.specs.hv_telling.specs.hv_house.proofs.Readings.{contains-last}
-use Rattle.hv_compact.specs.hv_job_acts.specs.hv_acts.specs.hv_telling.specs.hv_house.specs.declared.fault.HouseFault.TheVariants as house_fault
-use Rattle.hv_compact.specs.hv_job_acts.specs.hv_job_calls.specs.declared.fault.JobFault.TheVariants as fault
-use Rattle.hv_compact.specs.hv_job_acts.specs.hv_acts.specs.declared.told.ToldHouse.{ToldHouse}
-use Rattle.hv_compact.specs.hv_job_acts.specs.hv_acts.specs.Told.{seen_in, trail_in}
-use Rattle.hv_compact.specs.hv_job_acts.specs.hv_acts.specs.Going.{IsOpenHouse}
-use Rattle.hv_compact.specs.hv_job_acts.specs.declared.fault.JobActFault.{JobActFault}
-use Rattle.hv_compact.specs.hv_job_acts.specs.declared.fault.JobActFault.TheVariants as act
-use Rattle.hv_compact.specs.hv_job_acts.specs.Answers.{act_call, answer_call, adds_by}
-use Rattle.hv_compact.specs.hv_job_acts.specs.Doing.{RemovesSo}
-use Rattle.hv_compact.specs.hv_job_acts.specs.Going.{WasAt}
-use Rattle.hv_compact.specs.declared.fault.RunFault.{RunFault}
+use Rattle.hv_job_acts.specs.hv_acts.specs.hv_telling.specs.hv_house.proofs.Readings.{contains-last}
+use Rattle.hv_job_acts.specs.hv_acts.specs.hv_telling.specs.hv_house.specs.declared.fault.HouseFault.TheVariants as house_fault
+use Rattle.hv_job_acts.specs.hv_job_calls.specs.declared.fault.JobFault.TheVariants as fault
+use Rattle.hv_job_acts.specs.hv_acts.specs.declared.told.ToldHouse.{ToldHouse}
+use Rattle.hv_job_acts.specs.hv_acts.specs.Told.{seen_in, trail_in}
+use Rattle.hv_job_acts.specs.hv_acts.specs.Going.{IsOpenHouse}
+use Rattle.hv_job_acts.specs.declared.fault.JobActFault.{JobActFault}
+use Rattle.hv_job_acts.specs.declared.fault.JobActFault.TheVariants as act
+use Rattle.hv_job_acts.specs.Answers.{act_call, answer_call, adds_by}
+use Rattle.hv_job_acts.specs.Doing.{RemovesSo}
+use Rattle.hv_job_acts.specs.Going.{WasAt}
+use Rattle.hv_clean.specs.declared.fault.PassFault.{PassFault}
 use Rattle.hv_clean.specs.declared.fault.Swept.{Swept}
 use Rattle.hv_clean.specs.declared.stopping.Refused.{Refused as WhyRefused}
 use Rattle.hv_clean.specs.declared.stopping.Refused.TheVariants as refused_as
@@ -65,16 +65,16 @@ module _ {D : Type 0} (told : D → Option Store) (faults : D → ℕ) (between 
     goes-less refused_as.Over s = tt
     goes-less (refused_as.Stop f) s = s
 
-    pub refused-sweeps : (r : WhyRefused) (result : Result (Unit {0}) RunFault) → r ≡ why → to ≡ counted_as r from → result ≡ unless_stopped r → Behind why
+    pub refused-sweeps : (r : WhyRefused) (result : Result (Unit {0}) PassFault) → r ≡ why → to ≡ counted_as r from → result ≡ unless_stopped r → Behind why
         → IfOk result (λ done. Sweeps Its a b from to)
     refused-sweeps r result is counts ends_ s =
-        subst (λ (x : Result (Unit {0}) RunFault). IfOk x (λ done. Sweeps Its a b from to)) (sym ends_)
+        subst (λ (x : Result (Unit {0}) PassFault). IfOk x (λ done. Sweeps Its a b from to)) (sym ends_)
         (subst (λ (t : Swept). IfOk (unless_stopped r) (λ done. Sweeps Its a b from t)) (sym counts) (goes-sweeps r (subst Behind (sym is) s)))
 
-    pub refused-less : (r : WhyRefused) (result : Result (Unit {0}) RunFault) → r ≡ why → result ≡ unless_stopped r → Behind why
+    pub refused-less : (r : WhyRefused) (result : Result (Unit {0}) PassFault) → r ≡ why → result ≡ unless_stopped r → Behind why
         → IfErr result (SweepsLess Its a b)
     refused-less r result is ends_ s =
-        subst (λ (x : Result (Unit {0}) RunFault). IfErr x (SweepsLess Its a b)) (sym ends_) (goes-less r (subst Behind (sym is) s))
+        subst (λ (x : Result (Unit {0}) PassFault). IfErr x (SweepsLess Its a b)) (sym ends_) (goes-less r (subst Behind (sym is) s))
 
     removed-sweeps : (r : WhyRefused) → Behind r → IfOk (removal_by r) (λ removal. Sweeps Its a b from (counted_as r from))
     removed-sweeps refused_as.Failed s = s
@@ -90,15 +90,15 @@ module _ {D : Type 0} (told : D → Option Store) (faults : D → ℕ) (between 
     removed-less refused_as.Over s = tt
     removed-less (refused_as.Stop f) s = s
 
-    pub removal-sweeps : (r : WhyRefused) (result : Result Removal RunFault) → r ≡ why → to ≡ counted_as r from → result ≡ removal_by r → Behind why
+    pub removal-sweeps : (r : WhyRefused) (result : Result Removal PassFault) → r ≡ why → to ≡ counted_as r from → result ≡ removal_by r → Behind why
         → IfOk result (λ removal. Sweeps Its a b from to)
     removal-sweeps r result is counts ends_ s =
-        subst (λ (x : Result Removal RunFault). IfOk x (λ removal. Sweeps Its a b from to)) (sym ends_)
+        subst (λ (x : Result Removal PassFault). IfOk x (λ removal. Sweeps Its a b from to)) (sym ends_)
         (subst (λ (t : Swept). IfOk (removal_by r) (λ removal. Sweeps Its a b from t)) (sym counts) (removed-sweeps r (subst Behind (sym is) s)))
 
-    pub removal-less : (r : WhyRefused) (result : Result Removal RunFault) → r ≡ why → result ≡ removal_by r → Behind why → IfErr result (SweepsLess Its a b)
+    pub removal-less : (r : WhyRefused) (result : Result Removal PassFault) → r ≡ why → result ≡ removal_by r → Behind why → IfErr result (SweepsLess Its a b)
     removal-less r result is ends_ s =
-        subst (λ (x : Result Removal RunFault). IfErr x (SweepsLess Its a b)) (sym ends_) (removed-less r (subst Behind (sym is) s))
+        subst (λ (x : Result Removal PassFault). IfErr x (SweepsLess Its a b)) (sym ends_) (removed-less r (subst Behind (sym is) s))
 
   -- ---- one directory
 
@@ -153,11 +153,11 @@ module _ {D : Type 0} (told : D → Option Store) (faults : D → ℕ) (between 
     says-so (act.Call (fault.House house_fault.NoMemory)) from held = tt
     says-so (act.Call (fault.House (house_fault.Failed count))) from held = fault-tells from
 
-    pub removal-says : (result : Result (Unit {0}) JobActFault) (why : JobActFault) (from to : Swept) (r : WhyRefused) (answer : Result Removal RunFault)
+    pub removal-says : (result : Result (Unit {0}) JobActFault) (why : JobActFault) (from to : Swept) (r : WhyRefused) (answer : Result Removal PassFault)
         → result ≡ Err why → RemoveHeld result → r ≡ refusal_of why → to ≡ counted_as r from → answer ≡ removal_by r
         → IfOk answer (RemovalSays before now job from to)
     removal-says result why from to r answer is held r_is counts ends_ =
-        subst (λ (x : Result Removal RunFault). IfOk x (RemovalSays before now job from to)) (sym ends_)
+        subst (λ (x : Result Removal PassFault). IfOk x (RemovalSays before now job from to)) (sym ends_)
         (subst (λ (t : Swept). IfOk (removal_by r) (RemovalSays before now job from t)) (sym counts)
         (subst (SaysAs from) (sym r_is) (says-so why from (subst RemoveHeld is held))))
 
@@ -168,8 +168,8 @@ module _ {D : Type 0} (told : D → Option Store) (faults : D → ℕ) (between 
     went-as refused_as.Over = tt
     went-as (refused_as.Stop f) = tt
 
-    pub removal-went : (r : WhyRefused) (answer : Result Removal RunFault) → answer ≡ removal_by r → IfOk answer (WentBy (trail_in now) (dir ∷ []))
-    removal-went r answer ends_ = subst (λ (x : Result Removal RunFault). IfOk x (WentBy (trail_in now) (dir ∷ []))) (sym ends_) (went-as r)
+    pub removal-went : (r : WhyRefused) (answer : Result Removal PassFault) → answer ≡ removal_by r → IfOk answer (WentBy (trail_in now) (dir ∷ []))
+    removal-went r answer ends_ = subst (λ (x : Result Removal PassFault). IfOk x (WentBy (trail_in now) (dir ∷ []))) (sym ends_) (went-as r)
 
 -- ---- removals, one behind the other
 

@@ -4,7 +4,7 @@ use Rattle.hv_shelf.specs.declared.place.DirAt.{DirAt}
 use Rattle.hv_shelf.specs.declared.place.Place.{Place}
 use Rattle.hv_dirs.specs.declared.names.DirName.{DirName}
 use Rattle.hv_dirs.specs.declared.names.DirName.TheVariants as dir_name
-use Rattle.hv_compact.specs.hv_job_acts.specs.hv_job_calls.specs.Refusals.{IsOwnText, IsStagedText}
+use Rattle.hv_job_acts.specs.hv_job_calls.specs.Refusals.{IsOwnText, IsStagedText}
 
 abbrev pub dir_of_place : Place → DirAt
 dir_of_place place = record { table = place.table; partition = place.partition; dir = place.dir }

@@ -1,4 +1,4 @@
-pub use Rattle.hv_compact as hv_compact
+pub use Rattle.hv_job_acts as hv_job_acts
 pub mod Stopping
 pub mod Passing
 pub mod Removing

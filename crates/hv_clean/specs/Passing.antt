@@ -15,15 +15,15 @@ use Rattle.hv_trail.specs.declared.trail.Mark.TheVariants.{Went, Broke}
 use Rattle.hv_trail.specs.Trail.{state_at}
 use Rattle.hv_trail.specs.Steps.{Call, Note, Remove, Read}
 use Rattle.hv_actor.specs.Acting.{Setting, Moment, numbers_from}
-use Rattle.hv_compact.specs.hv_job_acts.specs.hv_acts.specs.declared.told.ToldHouse.{ToldHouse}
-use Rattle.hv_compact.specs.hv_job_acts.specs.hv_acts.specs.Told.{trail_in, book_in}
-use Rattle.hv_compact.specs.hv_job_acts.specs.hv_acts.specs.Going.{IsOpenHouse}
-use Rattle.hv_compact.specs.hv_job_acts.specs.hv_job_calls.specs.Refusals.{HasGoneJob, IsHeldBy, IfLive, CanForget, is_live_in}
-use Rattle.hv_compact.specs.hv_job_acts.specs.declared.asking.LostId.{LostId}
-use Rattle.hv_compact.specs.hv_job_acts.specs.Going.{AddsItems, IsShutFor, WasAt}
-use Rattle.hv_compact.specs.hv_job_acts.specs.Work.{ready_in, lost_in}
-use Rattle.hv_compact.specs.declared.fault.RunFault.{RunFault}
-use Rattle.hv_compact.specs.declared.fault.RunFault.TheVariants as run
+use Rattle.hv_job_acts.specs.hv_acts.specs.declared.told.ToldHouse.{ToldHouse}
+use Rattle.hv_job_acts.specs.hv_acts.specs.Told.{trail_in, book_in}
+use Rattle.hv_job_acts.specs.hv_acts.specs.Going.{IsOpenHouse}
+use Rattle.hv_job_acts.specs.hv_job_calls.specs.Refusals.{HasGoneJob, IsHeldBy, IfLive, CanForget, is_live_in}
+use Rattle.hv_job_acts.specs.declared.asking.LostId.{LostId}
+use Rattle.hv_job_acts.specs.Going.{AddsItems, IsShutFor, WasAt}
+use Rattle.hv_job_acts.specs.Work.{ready_in, lost_in}
+use Rattle.hv_clean.specs.declared.fault.PassFault.{PassFault}
+use Rattle.hv_clean.specs.declared.fault.PassFault.TheVariants as run
 use Rattle.hv_clean.specs.declared.fault.Swept.{Swept}
 
 -- ---- counts
@@ -84,7 +84,7 @@ IsCleaning (Remove None dir) = Unit {0}
 IsCleaning (Read None) = Unit {0}
 IsCleaning call = ⊥
 
-abbrev pub RunsOut : {D : Type 0} → Setting D (ToldHouse D) → ToldHouse D → RunFault → Type 0
+abbrev pub RunsOut : {D : Type 0} → Setting D (ToldHouse D) → ToldHouse D → PassFault → Type 0
 RunsOut setting now run.Store = IsShutFor setting IsCleaning now
 RunsOut setting now (run.Full entries) = IsOpenHouse now
 RunsOut setting now run.NoMemory = IsOpenHouse now
@@ -102,7 +102,7 @@ pub record Sweeps {D : Type 0} (setting : Setting D (ToldHouse D)) (before now :
 
 -- they added these, and the pass ends
 pub record SweepsLess {D : Type 0} (setting : Setting D (ToldHouse D)) (before now : Moment (ToldHouse D))
-    (why : RunFault) : Type 0 where
+    (why : PassFault) : Type 0 where
   pub items : List TrailItem
   pub adds : AddsItems setting.faults setting.between before now items
   pub each : AllByRecursion IsPassed items

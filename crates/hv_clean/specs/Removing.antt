@@ -15,12 +15,12 @@ use Rattle.hv_law_work.specs.Work.{AreGone}
 use Rattle.hv_trail.specs.declared.trail.TrailItem.{TrailItem}
 use Rattle.hv_trail.specs.Trail.{state_at, HasGone}
 use Rattle.hv_actor.specs.Acting.{Setting, Moment}
-use Rattle.hv_compact.specs.hv_job_acts.specs.hv_acts.specs.declared.told.ToldHouse.{ToldHouse}
-use Rattle.hv_compact.specs.hv_job_acts.specs.hv_acts.specs.Told.{trail_in}
-use Rattle.hv_compact.specs.hv_job_acts.specs.hv_job_calls.specs.Refusals.{IsCoveredDir, IsLostIn, IsOwnText, CanSweep}
-use Rattle.hv_compact.specs.hv_job_acts.specs.declared.asking.LostId.{LostId}
-use Rattle.hv_compact.specs.hv_job_acts.specs.Work.{live_in}
-use Rattle.hv_compact.specs.declared.fault.RunFault.{RunFault}
+use Rattle.hv_job_acts.specs.hv_acts.specs.declared.told.ToldHouse.{ToldHouse}
+use Rattle.hv_job_acts.specs.hv_acts.specs.Told.{trail_in}
+use Rattle.hv_job_acts.specs.hv_job_calls.specs.Refusals.{IsCoveredDir, IsLostIn, IsOwnText, CanSweep}
+use Rattle.hv_job_acts.specs.declared.asking.LostId.{LostId}
+use Rattle.hv_job_acts.specs.Work.{live_in}
+use Rattle.hv_clean.specs.declared.fault.PassFault.{PassFault}
 use Rattle.hv_clean.specs.declared.fault.Swept.{Swept}
 use Rattle.hv_clean.specs.declared.stopping.Refused.{Refused}
 use Rattle.hv_clean.specs.declared.stopping.Refused.TheVariants as refused_as
@@ -97,21 +97,21 @@ counted_held refused_as.Listed swept = swept
 counted_held refused_as.Over swept = swept
 counted_held (refused_as.Stop why) swept = swept
 
-abbrev pub unless_stopped : Refused → Result (Unit {0}) RunFault
+abbrev pub unless_stopped : Refused → Result (Unit {0}) PassFault
 unless_stopped refused_as.Failed = Ok tt
 unless_stopped refused_as.Needed = Ok tt
 unless_stopped refused_as.Listed = Ok tt
 unless_stopped refused_as.Over = Ok tt
 unless_stopped (refused_as.Stop why) = Err why
 
-abbrev pub not_listed : Refused → Result (Option (Vec Place)) RunFault
+abbrev pub not_listed : Refused → Result (Option (Vec Place)) PassFault
 not_listed refused_as.Failed = Ok None
 not_listed refused_as.Needed = Ok None
 not_listed refused_as.Listed = Ok None
 not_listed refused_as.Over = Ok None
 not_listed (refused_as.Stop why) = Err why
 
-abbrev pub removal_by : Refused → Result Removal RunFault
+abbrev pub removal_by : Refused → Result Removal PassFault
 removal_by refused_as.Failed = Ok removed.Left
 removal_by refused_as.Needed = Ok removed.Held
 removal_by refused_as.Listed = Ok removed.Over

@@ -1,12 +1,12 @@
 -- What a refusal of a cleaner's act comes to.
-use Rattle.hv_compact.specs.hv_job_acts.specs.hv_acts.specs.hv_telling.specs.hv_house.specs.declared.fault.HouseFault.{HouseFault}
-use Rattle.hv_compact.specs.hv_job_acts.specs.hv_acts.specs.hv_telling.specs.hv_house.specs.declared.fault.HouseFault.TheVariants as house_fault
-use Rattle.hv_compact.specs.hv_job_acts.specs.hv_job_calls.specs.declared.fault.JobFault.{JobFault}
-use Rattle.hv_compact.specs.hv_job_acts.specs.hv_job_calls.specs.declared.fault.JobFault.TheVariants as fault
-use Rattle.hv_compact.specs.hv_job_acts.specs.declared.fault.JobActFault.{JobActFault}
-use Rattle.hv_compact.specs.hv_job_acts.specs.declared.fault.JobActFault.TheVariants as act
-use Rattle.hv_compact.specs.declared.fault.RunFault.{RunFault}
-use Rattle.hv_compact.specs.declared.fault.RunFault.TheVariants as run
+use Rattle.hv_job_acts.specs.hv_acts.specs.hv_telling.specs.hv_house.specs.declared.fault.HouseFault.{HouseFault}
+use Rattle.hv_job_acts.specs.hv_acts.specs.hv_telling.specs.hv_house.specs.declared.fault.HouseFault.TheVariants as house_fault
+use Rattle.hv_job_acts.specs.hv_job_calls.specs.declared.fault.JobFault.{JobFault}
+use Rattle.hv_job_acts.specs.hv_job_calls.specs.declared.fault.JobFault.TheVariants as fault
+use Rattle.hv_job_acts.specs.declared.fault.JobActFault.{JobActFault}
+use Rattle.hv_job_acts.specs.declared.fault.JobActFault.TheVariants as act
+use Rattle.hv_clean.specs.declared.fault.PassFault.{PassFault}
+use Rattle.hv_clean.specs.declared.fault.PassFault.TheVariants as run
 use Rattle.hv_clean.specs.declared.stopping.Refused.{Refused}
 use Rattle.hv_clean.specs.declared.stopping.Refused.TheVariants as refused_as
 
@@ -30,12 +30,12 @@ refusal_of act.Unfit = refused_as.Over
 refusal_of (act.Broken put count) = refused_as.Over
 refusal_of (act.Call why) = call_refused why
 
-abbrev pub stop_of : Refused → RunFault
+abbrev pub stop_of : Refused → PassFault
 stop_of (refused_as.Stop why) = why
 stop_of refused_as.Failed = run.NoMemory
 stop_of refused_as.Needed = run.NoMemory
 stop_of refused_as.Listed = run.NoMemory
 stop_of refused_as.Over = run.NoMemory
 
-abbrev pub stopped : JobActFault → RunFault
+abbrev pub stopped : JobActFault → PassFault
 stopped why = stop_of (refusal_of why)

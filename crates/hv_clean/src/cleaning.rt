@@ -2,19 +2,18 @@
 
 ghost use Rattle.std.specs.Prelude.{◌≡◌, ◌∷◌, [], IfOk, IfErr};
 ghost use Rattle.hv_actor.specs.Acting.{among, known};
-ghost use Rattle.hv_compact.specs.hv_job_acts.specs.hv_acts.specs.Told.{trail_in};
-ghost use Rattle.hv_compact.specs.hv_job_acts.specs.hv_acts.specs.Going.{IsOpenHouse};
+ghost use Rattle.hv_job_acts.specs.hv_acts.specs.Told.{trail_in};
+ghost use Rattle.hv_job_acts.specs.hv_acts.specs.Going.{IsOpenHouse};
 ghost use Rattle.hv_clean.specs.Passing.{Sweeps, SweepsLess, CleansOne, CleanEach};
 ghost use Rattle.hv_clean.specs.Removing.{IsKnown, AreKnown, IsCoveredFor, AreCoveredDirs, joined, ends, counted_held, removal_by, WentBy, RemovalSays, EndsTurn};
 ghost use Rattle.hv_clean.specs.declared.cleaning.Removal.TheVariants as removed;
 
-use crate::fault::{Swept, count_cleaned, count_held};
+use crate::fault::{PassFault, Swept, count_cleaned, count_held};
 use crate::stopping::{Refused, counted, refusal_of, stopped, unless_stopped};
 use hv_actor::Actor;
 use hv_base::JobId;
-use hv_compact::RunFault;
-use hv_compact::hv_job_acts::hv_acts::ToldHouse;
-use hv_compact::hv_job_acts::{AskBook, Covered, NoteCleaned, RemoveCovered};
+use hv_job_acts::hv_acts::ToldHouse;
+use hv_job_acts::{AskBook, Covered, NoteCleaned, RemoveCovered};
 use hv_shelf::{DirAt, Shelf};
 use std::alloc::Global;
 
@@ -56,7 +55,7 @@ fn ends(removal: Removal) -> bool
 }
 
 /// What the removal of a directory comes to that was refused.
-fn removal_by(why: Refused) -> Result<Removal, RunFault>
+fn removal_by(why: Refused) -> Result<Removal, PassFault>
     ensures { result ≡ removal_by why }
 {
     match why {
@@ -75,7 +74,7 @@ fn remove_one<D: Shelf + Drop, W: Actor<D, ToldHouse<D>>>(
     job: JobId,
     dir: DirAt,
     swept: &mut Swept,
-) -> Result<Removal, RunFault>
+) -> Result<Removal, PassFault>
     requires keeps { W.keeps actor.old }
     requires running { IsOpenHouse (W.house actor.old) }
     requires covered { IsCoveredFor (trail_in (W.house actor.old)) job dir }
@@ -105,7 +104,7 @@ fn remove_each<D: Shelf + Drop, W: Actor<D, ToldHouse<D>>>(
     job: JobId,
     dirs: Vec<DirAt>,
     swept: &mut Swept,
-) -> Result<Removal, RunFault>
+) -> Result<Removal, PassFault>
     requires keeps { W.keeps actor.old }
     requires running { IsOpenHouse (W.house actor.old) }
     requires covered { AreCoveredDirs (trail_in (W.house actor.old)) job dirs.items }
@@ -150,7 +149,7 @@ fn note_cleaned<D: Shelf + Drop, W: Actor<D, ToldHouse<D>>>(
     actor: &mut W,
     job: JobId,
     swept: &mut Swept,
-) -> Result<(), RunFault>
+) -> Result<(), PassFault>
     requires keeps { W.keeps actor.old }
     requires running { IsOpenHouse (W.house actor.old) }
     ensures keeps { W.keeps actor.new }
@@ -180,7 +179,7 @@ fn end_turn<D: Shelf + Drop, W: Actor<D, ToldHouse<D>>>(
     job: JobId,
     removal: Removal,
     swept: &mut Swept,
-) -> Result<(), RunFault>
+) -> Result<(), PassFault>
     requires keeps { W.keeps actor.old }
     requires running { IsOpenHouse (W.house actor.old) }
     ensures keeps { W.keeps actor.new }
@@ -208,7 +207,7 @@ fn clean_job<D: Shelf + Drop, W: Actor<D, ToldHouse<D>>>(
     actor: &mut W,
     job: JobId,
     swept: &mut Swept,
-) -> Result<(), RunFault>
+) -> Result<(), PassFault>
     requires keeps { W.keeps actor.old }
     requires running { IsOpenHouse (W.house actor.old) }
     requires there { IsKnown (trail_in (W.house actor.old)) job }
@@ -240,7 +239,7 @@ pub(crate) fn clean_jobs<D: Shelf + Drop, W: Actor<D, ToldHouse<D>>>(
     actor: &mut W,
     jobs: &[JobId],
     swept: &mut Swept,
-) -> Result<(), RunFault>
+) -> Result<(), PassFault>
     requires keeps { W.keeps actor.old }
     requires running { IsOpenHouse (W.house actor.old) }
     requires there { AreKnown (trail_in (W.house actor.old)) jobs.now }

@@ -2,12 +2,12 @@
 
 ghost use Rattle.std.specs.Prelude.{◌≡◌, ◌==◌, IfOk, OnOk};
 ghost use Rattle.std.specs.List.{AllByRecursion};
-ghost use Rattle.hv_compact.specs.hv_job_acts.specs.hv_job_calls.specs.Forgetting.{is_own_named};
+ghost use Rattle.hv_job_acts.specs.hv_job_calls.specs.Forgetting.{is_own_named};
 ghost use Rattle.hv_clean.specs.Dirs.{IsOwnIf, is_staged_name, IsStagedIf, dir_of_place, IsPutOnce, SweepsIf};
 ghost use Rattle.hv_clean.specs.Removing.{IsLostDir};
 
 use hv_base::{Duplicate, NoMemory, Text};
-use hv_compact::hv_job_acts::LostId;
+use hv_job_acts::LostId;
 use hv_dirs::{DirName, parse_name};
 use hv_shelf::{DirAt, Place};
 use std::alloc::Global;

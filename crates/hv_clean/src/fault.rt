@@ -12,6 +12,17 @@ pub struct Swept {
     pub faults: u64,
 }
 
+/// Why a pass stopped.
+#[derive(Clone, Copy, Debug)]
+pub enum PassFault {
+    /// The journal failed, or others closed the house.
+    Store,
+    /// There was no room for its own next entry: the book has so many.
+    Full { entries: u64 },
+    /// Memory lacked.
+    NoMemory,
+}
+
 /// Nothing was done yet.
 pub(crate) const NOTHING: Swept = Swept {
     cleaned: 0,

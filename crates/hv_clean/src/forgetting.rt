@@ -2,19 +2,18 @@
 
 ghost use Rattle.std.specs.Prelude.{◌≡◌, ◌∷◌, [], IfOk, IfErr};
 ghost use Rattle.hv_actor.specs.Acting.{among, known, numbers_from};
-ghost use Rattle.hv_compact.specs.hv_job_acts.specs.hv_acts.specs.Told.{trail_in};
-ghost use Rattle.hv_compact.specs.hv_job_acts.specs.hv_acts.specs.Going.{IsOpenHouse};
+ghost use Rattle.hv_job_acts.specs.hv_acts.specs.Told.{trail_in};
+ghost use Rattle.hv_job_acts.specs.hv_acts.specs.Going.{IsOpenHouse};
 ghost use Rattle.hv_clean.specs.Passing.{Sweeps, SweepsLess, ForgetsOne, ForgetEach, is_of_table, ids_of, ForgetsTable, ForgetTables, last_table, ForgetsAll};
 ghost use Rattle.hv_clean.specs.Removing.{IsLost, AreLostDirs, AreLost, counted_id, not_listed, is_any_of, IsListedBy, ForgetsFound};
 
 use crate::dirs::lost_dirs;
-use crate::fault::{Swept, count_fault, count_forgotten, count_listed};
+use crate::fault::{PassFault, Swept, count_fault, count_forgotten, count_listed};
 use crate::stopping::{Refused, counted, refusal_of, stopped, unless_stopped};
 use hv_actor::Actor;
 use hv_base::{NoMemory, TableId};
-use hv_compact::RunFault;
-use hv_compact::hv_job_acts::hv_acts::ToldHouse;
-use hv_compact::hv_job_acts::{AskBook, Forget, ListPlaces, Lost, LostId, RemoveOwn};
+use hv_job_acts::hv_acts::ToldHouse;
+use hv_job_acts::{AskBook, Forget, ListPlaces, Lost, LostId, RemoveOwn};
 use hv_shelf::{DirAt, Place, Shelf};
 use std::alloc::Global;
 
@@ -25,7 +24,7 @@ fn remove_lost<D: Shelf + Drop, W: Actor<D, ToldHouse<D>>>(
     id: LostId,
     dir: DirAt,
     swept: &mut Swept,
-) -> Result<(), RunFault>
+) -> Result<(), PassFault>
     requires keeps { W.keeps actor.old }
     requires running { IsOpenHouse (W.house actor.old) }
     requires lost { AreLostDirs (trail_in (W.house actor.old)) id (dir ∷ []) }
@@ -60,7 +59,7 @@ fn remove_all_lost<D: Shelf + Drop, W: Actor<D, ToldHouse<D>>>(
     id: LostId,
     dirs: Vec<DirAt>,
     swept: &mut Swept,
-) -> Result<(), RunFault>
+) -> Result<(), PassFault>
     requires keeps { W.keeps actor.old }
     requires running { IsOpenHouse (W.house actor.old) }
     requires lost { AreLostDirs (trail_in (W.house actor.old)) id dirs.items }
@@ -99,7 +98,7 @@ fn forget<D: Shelf + Drop, W: Actor<D, ToldHouse<D>>>(
     actor: &mut W,
     id: LostId,
     swept: &mut Swept,
-) -> Result<(), RunFault>
+) -> Result<(), PassFault>
     requires keeps { W.keeps actor.old }
     requires running { IsOpenHouse (W.house actor.old) }
     ensures keeps { W.keeps actor.new }
@@ -136,7 +135,7 @@ fn forget_id<D: Shelf + Drop, W: Actor<D, ToldHouse<D>>>(
     id: LostId,
     places: &[Place],
     swept: &mut Swept,
-) -> Result<(), RunFault>
+) -> Result<(), PassFault>
     requires keeps { W.keeps actor.old }
     requires running { IsOpenHouse (W.house actor.old) }
     requires lost { IsLost (trail_in (W.house actor.old)) id }
@@ -149,7 +148,7 @@ fn forget_id<D: Shelf + Drop, W: Actor<D, ToldHouse<D>>>(
 {
     let dirs = match lost_dirs(alloc, id, places) {
         Ok(dirs) => dirs,
-        Err(NoMemory) => return Err(RunFault::NoMemory),
+        Err(NoMemory) => return Err(PassFault::NoMemory),
     };
     match remove_all_lost(alloc, actor, id, dirs, swept) {
         Ok(()) => forget(alloc, actor, id, swept),
@@ -177,7 +176,7 @@ fn is_any_of(ids: &[LostId], table: u64) -> bool
 }
 
 /// What a listing comes to that was refused.
-fn not_listed(why: Refused) -> Result<Option<Vec<Place>>, RunFault>
+fn not_listed(why: Refused) -> Result<Option<Vec<Place>>, PassFault>
     ensures { result ≡ not_listed why }
 {
     match why {
@@ -195,7 +194,7 @@ pub(crate) fn list<D: Shelf + Drop, W: Actor<D, ToldHouse<D>>>(
     actor: &mut W,
     table: TableId,
     swept: &mut Swept,
-) -> Result<Option<Vec<Place>>, RunFault>
+) -> Result<Option<Vec<Place>>, PassFault>
     requires keeps { W.keeps actor.old }
     requires running { IsOpenHouse (W.house actor.old) }
     ensures keeps { W.keeps actor.new }
@@ -224,7 +223,7 @@ fn forget_if<D: Shelf + Drop, W: Actor<D, ToldHouse<D>>>(
     id: LostId,
     places: &[Place],
     swept: &mut Swept,
-) -> Result<(), RunFault>
+) -> Result<(), PassFault>
     requires keeps { W.keeps actor.old }
     requires running { IsOpenHouse (W.house actor.old) }
     requires lost { IsLost (trail_in (W.house actor.old)) id }
@@ -249,7 +248,7 @@ fn forget_listed<D: Shelf + Drop, W: Actor<D, ToldHouse<D>>>(
     ids: &[LostId],
     places: &[Place],
     swept: &mut Swept,
-) -> Result<(), RunFault>
+) -> Result<(), PassFault>
     requires keeps { W.keeps actor.old }
     requires running { IsOpenHouse (W.house actor.old) }
     requires lost { AreLost (trail_in (W.house actor.old)) ids.now }
@@ -276,7 +275,7 @@ fn forget_found<D: Shelf + Drop, W: Actor<D, ToldHouse<D>>>(
     ids: &[LostId],
     found: Option<Vec<Place>>,
     swept: &mut Swept,
-) -> Result<(), RunFault>
+) -> Result<(), PassFault>
     requires keeps { W.keeps actor.old }
     requires running { IsOpenHouse (W.house actor.old) }
     requires lost { AreLost (trail_in (W.house actor.old)) ids.now }
@@ -300,7 +299,7 @@ fn forget_table<D: Shelf + Drop, W: Actor<D, ToldHouse<D>>>(
     table: u64,
     ids: &[LostId],
     swept: &mut Swept,
-) -> Result<(), RunFault>
+) -> Result<(), PassFault>
     requires keeps { W.keeps actor.old }
     requires running { IsOpenHouse (W.house actor.old) }
     requires lost { AreLost (trail_in (W.house actor.old)) ids.now }
@@ -327,7 +326,7 @@ fn forget_each<D: Shelf + Drop, W: Actor<D, ToldHouse<D>>>(
     tables: u64,
     ids: &[LostId],
     swept: &mut Swept,
-) -> Result<(), RunFault>
+) -> Result<(), PassFault>
     requires keeps { W.keeps actor.old }
     requires running { IsOpenHouse (W.house actor.old) }
     requires lost { AreLost (trail_in (W.house actor.old)) ids.now }
@@ -364,7 +363,7 @@ pub(crate) fn forget_all<D: Shelf + Drop, W: Actor<D, ToldHouse<D>>>(
     alloc: Global,
     actor: &mut W,
     swept: &mut Swept,
-) -> Result<(), RunFault>
+) -> Result<(), PassFault>
     requires keeps { W.keeps actor.old }
     requires running { IsOpenHouse (W.house actor.old) }
     ensures keeps { W.keeps actor.new }

@@ -2,7 +2,7 @@
 ghost use Rattle.hv_clean.specs.Alone.{AddsNothing, PassesAlone};
 
 use hv_actor::Actor;
-use hv_compact::hv_job_acts::hv_acts::ToldHouse;
+use hv_job_acts::hv_acts::ToldHouse;
 use hv_shelf::Shelf;
 
 /// A pass none of whose calls on files failed, and that found no directory of an aborted id listed still, adds a Cleaned

@@ -1,7 +1,7 @@
 //! A cleaner: directories that nobody needs any more are taken away, and the book is told.
 #![tactic(auto)]
 
-pub use hv_compact;
+pub use hv_job_acts;
 
 mod cleaning;
 mod dirs;
@@ -12,6 +12,6 @@ mod passing;
 mod stopping;
 mod sweeping;
 
-pub use fault::Swept;
+pub use fault::{PassFault, Swept};
 pub use laws::alone_passes;
 pub use passing::clean_pass;

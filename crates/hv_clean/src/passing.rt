@@ -2,21 +2,20 @@
 
 ghost use Rattle.std.specs.Prelude.{IfOk, IfErr};
 ghost use Rattle.hv_actor.specs.Acting.{IsLater, among, known};
-ghost use Rattle.hv_compact.specs.hv_job_acts.specs.hv_acts.specs.Told.{seen_in, trail_in};
-ghost use Rattle.hv_compact.specs.hv_job_acts.specs.hv_acts.specs.Going.{IsOpenHouse};
+ghost use Rattle.hv_job_acts.specs.hv_acts.specs.Told.{seen_in, trail_in};
+ghost use Rattle.hv_job_acts.specs.hv_acts.specs.Going.{IsOpenHouse};
 ghost use Rattle.hv_clean.specs.Passing.{Sweeps, SweepsLess, PassesRest, PassesOver, Passes};
 ghost use Rattle.hv_clean.specs.Removing.{AreKnown};
 
 use crate::cleaning::clean_jobs;
-use crate::fault::{NOTHING, Swept};
+use crate::fault::{NOTHING, PassFault, Swept};
 use crate::forgetting::forget_all;
 use crate::stopping::stopped;
 use crate::sweeping::sweep_all;
 use hv_actor::Actor;
 use hv_base::JobId;
-use hv_compact::RunFault;
-use hv_compact::hv_job_acts::hv_acts::ToldHouse;
-use hv_compact::hv_job_acts::{AskBook, Ready};
+use hv_job_acts::hv_acts::ToldHouse;
+use hv_job_acts::{AskBook, Ready};
 use hv_shelf::Shelf;
 use std::alloc::Global;
 
@@ -25,7 +24,7 @@ fn end_pass<D: Shelf + Drop, W: Actor<D, ToldHouse<D>>>(
     alloc: Global,
     actor: &mut W,
     before: Swept,
-) -> Result<Swept, RunFault>
+) -> Result<Swept, PassFault>
     requires keeps { W.keeps actor.old }
     requires running { IsOpenHouse (W.house actor.old) }
     ensures keeps { W.keeps actor.new }
@@ -47,7 +46,7 @@ fn pass_rest<D: Shelf + Drop, W: Actor<D, ToldHouse<D>>>(
     alloc: Global,
     actor: &mut W,
     before: Swept,
-) -> Result<Swept, RunFault>
+) -> Result<Swept, PassFault>
     requires keeps { W.keeps actor.old }
     requires running { IsOpenHouse (W.house actor.old) }
     ensures keeps { W.keeps actor.new }
@@ -69,7 +68,7 @@ fn pass_over<D: Shelf + Drop, W: Actor<D, ToldHouse<D>>>(
     alloc: Global,
     actor: &mut W,
     jobs: &[JobId],
-) -> Result<Swept, RunFault>
+) -> Result<Swept, PassFault>
     requires keeps { W.keeps actor.old }
     requires running { IsOpenHouse (W.house actor.old) }
     requires there { AreKnown (trail_in (W.house actor.old)) jobs.now }
@@ -99,7 +98,7 @@ fn pass_over<D: Shelf + Drop, W: Actor<D, ToldHouse<D>>>(
 pub fn clean_pass<D: Shelf + Drop, W: Actor<D, ToldHouse<D>>>(
     alloc: Global,
     actor: &mut W,
-) -> Result<Swept, RunFault>
+) -> Result<Swept, PassFault>
     requires keeps { W.keeps actor.old }
     requires running { IsOpenHouse (W.house actor.old) }
     ensures keeps { W.keeps actor.new }

@@ -4,11 +4,10 @@ ghost use Rattle.std.specs.Prelude.{◌≡◌};
 ghost use Rattle.hv_clean.specs.Stopping.{house_refused, call_refused, refusal_of, stop_of, stopped};
 ghost use Rattle.hv_clean.specs.Removing.{counted_as, unless_stopped};
 
-use crate::fault::{Swept, count_fault};
-use hv_compact::RunFault;
-use hv_compact::hv_job_acts::JobActFault;
-use hv_compact::hv_job_acts::hv_acts::hv_telling::hv_house::HouseFault;
-use hv_compact::hv_job_acts::hv_job_calls::JobFault;
+use crate::fault::{PassFault, Swept, count_fault};
+use hv_job_acts::JobActFault;
+use hv_job_acts::hv_job_calls::JobFault;
+use hv_job_acts::hv_acts::hv_telling::hv_house::HouseFault;
 
 /// Why an act of a cleaner was refusal_of, as far as the pass asks.
 #[derive(Clone, Copy)]
@@ -22,15 +21,15 @@ pub(crate) enum Refused {
     /// What it was for is over, or left to a later pass.
     Over,
     /// The pass ends.
-    Stop(RunFault),
+    Stop(PassFault),
 }
 
 fn house_refused(why: HouseFault) -> Refused
     ensures { result ≡ house_refused why }
 {
     match why {
-        HouseFault::Store => Refused::Stop(RunFault::Store),
-        HouseFault::NoMemory => Refused::Stop(RunFault::NoMemory),
+        HouseFault::Store => Refused::Stop(PassFault::Store),
+        HouseFault::NoMemory => Refused::Stop(PassFault::NoMemory),
         HouseFault::Failed { .. } => Refused::Failed,
     }
 }
@@ -40,12 +39,12 @@ fn call_refused(why: JobFault) -> Refused
 {
     match why {
         JobFault::Gone => Refused::Over,
-        JobFault::Full { entries } => Refused::Stop(RunFault::Full { entries }),
+        JobFault::Full { entries } => Refused::Stop(PassFault::Full { entries }),
         JobFault::NotFound => Refused::Over,
         JobFault::Needed { .. } => Refused::Needed,
         JobFault::StillListed { .. } => Refused::Listed,
         JobFault::Working { .. } => Refused::Over,
-        JobFault::Starved => Refused::Stop(RunFault::NoMemory),
+        JobFault::Starved => Refused::Stop(PassFault::NoMemory),
         JobFault::House(fault) => house_refused(fault),
     }
 }
@@ -74,7 +73,7 @@ pub(crate) fn counted(why: Refused, swept: Swept) -> Swept
 }
 
 /// Whether the pass goes on behind a refusal.
-pub(crate) fn unless_stopped(why: Refused) -> Result<(), RunFault>
+pub(crate) fn unless_stopped(why: Refused) -> Result<(), PassFault>
     ensures { result ≡ unless_stopped why }
 {
     match why {
@@ -86,20 +85,20 @@ pub(crate) fn unless_stopped(why: Refused) -> Result<(), RunFault>
     }
 }
 
-fn stop_of(why: Refused) -> RunFault
+fn stop_of(why: Refused) -> PassFault
     ensures { result ≡ stop_of why }
 {
     match why {
         Refused::Stop(fault) => fault,
-        Refused::Failed => RunFault::NoMemory,
-        Refused::Needed => RunFault::NoMemory,
-        Refused::Listed => RunFault::NoMemory,
-        Refused::Over => RunFault::NoMemory,
+        Refused::Failed => PassFault::NoMemory,
+        Refused::Needed => PassFault::NoMemory,
+        Refused::Listed => PassFault::NoMemory,
+        Refused::Over => PassFault::NoMemory,
     }
 }
 
 /// What a refusal comes to where the book was only asked.
-pub(crate) fn stopped(why: JobActFault) -> RunFault
+pub(crate) fn stopped(why: JobActFault) -> PassFault
     ensures { result ≡ stopped why }
 {
     stop_of(refusal_of(why))

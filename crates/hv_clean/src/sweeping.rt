@@ -3,21 +3,20 @@
 ghost use Rattle.std.specs.Prelude.{◌≡◌, false, IfOk, IfErr};
 ghost use Rattle.hv_trail.specs.Trail.{state_at};
 ghost use Rattle.hv_actor.specs.Acting.{among, known};
-ghost use Rattle.hv_compact.specs.hv_job_acts.specs.hv_acts.specs.Told.{trail_in};
-ghost use Rattle.hv_compact.specs.hv_job_acts.specs.hv_acts.specs.Going.{IsOpenHouse};
-ghost use Rattle.hv_compact.specs.hv_job_acts.specs.hv_job_calls.specs.Refusals.{CanSweep};
+ghost use Rattle.hv_job_acts.specs.hv_acts.specs.Told.{trail_in};
+ghost use Rattle.hv_job_acts.specs.hv_acts.specs.Going.{IsOpenHouse};
+ghost use Rattle.hv_job_acts.specs.hv_job_calls.specs.Refusals.{CanSweep};
 ghost use Rattle.hv_clean.specs.Passing.{Sweeps, SweepsLess};
 ghost use Rattle.hv_clean.specs.Removing.{AreSweepable, IsDropped, AreTables};
 
 use crate::dirs::sweepable_dirs;
-use crate::fault::Swept;
+use crate::fault::{PassFault, Swept};
 use crate::forgetting::list;
 use crate::stopping::{counted, refusal_of, stopped, unless_stopped};
 use hv_actor::Actor;
 use hv_base::{NoMemory, TableId};
-use hv_compact::RunFault;
-use hv_compact::hv_job_acts::hv_acts::ToldHouse;
-use hv_compact::hv_job_acts::{AskBook, Sweep, Tables};
+use hv_job_acts::hv_acts::ToldHouse;
+use hv_job_acts::{AskBook, Sweep, Tables};
 use hv_shelf::{DirAt, Place, Shelf};
 use std::alloc::Global;
 
@@ -27,7 +26,7 @@ fn sweep_one<D: Shelf + Drop, W: Actor<D, ToldHouse<D>>>(
     actor: &mut W,
     dir: DirAt,
     swept: &mut Swept,
-) -> Result<(), RunFault>
+) -> Result<(), PassFault>
     requires keeps { W.keeps actor.old }
     requires running { IsOpenHouse (W.house actor.old) }
     requires can { CanSweep (state_at (trail_in (W.house actor.old))) dir }
@@ -53,7 +52,7 @@ fn sweep_each<D: Shelf + Drop, W: Actor<D, ToldHouse<D>>>(
     actor: &mut W,
     dirs: Vec<DirAt>,
     swept: &mut Swept,
-) -> Result<(), RunFault>
+) -> Result<(), PassFault>
     requires keeps { W.keeps actor.old }
     requires running { IsOpenHouse (W.house actor.old) }
     requires can { AreSweepable (trail_in (W.house actor.old)) dirs.items }
@@ -80,7 +79,7 @@ fn sweep_places<D: Shelf + Drop, W: Actor<D, ToldHouse<D>>>(
     live: bool,
     places: &[Place],
     swept: &mut Swept,
-) -> Result<(), RunFault>
+) -> Result<(), PassFault>
     requires keeps { W.keeps actor.old }
     requires running { IsOpenHouse (W.house actor.old) }
     requires dropped { live ≡ false → IsDropped (trail_in (W.house actor.old)) table }
@@ -93,7 +92,7 @@ fn sweep_places<D: Shelf + Drop, W: Actor<D, ToldHouse<D>>>(
 {
     match sweepable_dirs(alloc, table, live, places) {
         Ok(dirs) => sweep_each(alloc, actor, dirs, swept),
-        Err(NoMemory) => Err(RunFault::NoMemory),
+        Err(NoMemory) => Err(PassFault::NoMemory),
     }
 }
 
@@ -105,7 +104,7 @@ fn sweep_found<D: Shelf + Drop, W: Actor<D, ToldHouse<D>>>(
     live: bool,
     found: Option<Vec<Place>>,
     swept: &mut Swept,
-) -> Result<(), RunFault>
+) -> Result<(), PassFault>
     requires keeps { W.keeps actor.old }
     requires running { IsOpenHouse (W.house actor.old) }
     requires dropped { live ≡ false → IsDropped (trail_in (W.house actor.old)) table }
@@ -129,7 +128,7 @@ fn sweep_table<D: Shelf + Drop, W: Actor<D, ToldHouse<D>>>(
     table: u64,
     live: bool,
     swept: &mut Swept,
-) -> Result<(), RunFault>
+) -> Result<(), PassFault>
     requires keeps { W.keeps actor.old }
     requires running { IsOpenHouse (W.house actor.old) }
     requires dropped { live ≡ false → IsDropped (trail_in (W.house actor.old)) table }
@@ -151,7 +150,7 @@ fn sweep_tables<D: Shelf + Drop, W: Actor<D, ToldHouse<D>>>(
     actor: &mut W,
     live: &[bool],
     swept: &mut Swept,
-) -> Result<(), RunFault>
+) -> Result<(), PassFault>
     requires keeps { W.keeps actor.old }
     requires running { IsOpenHouse (W.house actor.old) }
     requires tables { AreTables (trail_in (W.house actor.old)) live.now }
@@ -175,7 +174,7 @@ pub(crate) fn sweep_all<D: Shelf + Drop, W: Actor<D, ToldHouse<D>>>(
     alloc: Global,
     actor: &mut W,
     swept: &mut Swept,
-) -> Result<(), RunFault>
+) -> Result<(), PassFault>
     requires keeps { W.keeps actor.old }
     requires running { IsOpenHouse (W.house actor.old) }
     ensures keeps { W.keeps actor.new }

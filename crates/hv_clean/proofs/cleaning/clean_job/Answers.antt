@@ -4,9 +4,9 @@ use Rattle.std.specs.Global.{Vec}
 use Rattle.hv_shelf.specs.declared.place.DirAt.{DirAt}
 use Rattle.hv_history.specs.declared.entry.Entry.{Entry}
 use Rattle.hv_history.specs.State.{Job, numbered, state_of}
-use Rattle.hv_compact.specs.hv_job_acts.specs.hv_acts.specs.Told.{trail_in}
-use Rattle.hv_compact.specs.hv_job_acts.specs.Covering.{AreNamesOf}
-use Rattle.hv_compact.specs.hv_job_acts.specs.Work.{AreCovered}
+use Rattle.hv_job_acts.specs.hv_acts.specs.Told.{trail_in}
+use Rattle.hv_job_acts.specs.Covering.{AreNamesOf}
+use Rattle.hv_job_acts.specs.Work.{AreCovered}
 use Rattle.hv_clean.proofs.Holds.{asked-so, asked-less, asked-says}
 use Rattle.hv_clean.proofs.Moved.{less-behind, less-up, moves-asks, moves-then, moves-sweeps, moves-front}
 use Rattle.hv_clean.proofs.Lasts.{known-lasts}
@@ -14,7 +14,7 @@ use Rattle.hv_clean.proofs.Ended.{fits-in, may-go, turn-ok}
 use Rattle.std.specs.Prelude.{Result}
 use Rattle.hv_trail.specs.Steps.{HouseSeen}
 use Rattle.hv_trail.specs.Trail.{book_of}
-use Rattle.hv_compact.specs.hv_job_acts.specs.Questions.{AnswersSo}
+use Rattle.hv_job_acts.specs.Questions.{AnswersSo}
 use Rattle.hv_clean.proofs.cleaning.clean_job.Goals as goal
 
 pub hold-requires-clause-few : goal.hold-requires-clause-few

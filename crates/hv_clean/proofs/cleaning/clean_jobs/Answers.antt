@@ -3,7 +3,7 @@ use Rattle.std.proofs.Common.{List, take, get_or, sym, subst}
 use Rattle.std.proofs.lemmas.List.{take_more, take_all}
 use Rattle.hv_base.specs.declared.ids.JobId.{JobId}
 use Rattle.hv_actor.specs.Acting.{among}
-use Rattle.hv_compact.specs.hv_job_acts.specs.hv_acts.specs.Told.{trail_in}
+use Rattle.hv_job_acts.specs.hv_acts.specs.Told.{trail_in}
 use Rattle.hv_clean.specs.Passing.{CleanEach}
 use Rattle.hv_clean.proofs.Moved.{sweeps-none, each-more, moves-each, moves-one, moves-front, less-behind}
 use Rattle.hv_clean.proofs.Lasts.{all-known}

@@ -1,8 +1,8 @@
 use Rattle.hv_actor.specs.Acting.{known}
 use Rattle.std.proofs.Common.{take}
 use Rattle.hv_actor.specs.Acting.{among}
-use Rattle.hv_compact.specs.hv_job_acts.specs.hv_acts.specs.Told.{trail_in}
-use Rattle.hv_compact.specs.hv_job_acts.specs.hv_acts.specs.Going.{IsOpenHouse}
+use Rattle.hv_job_acts.specs.hv_acts.specs.Told.{trail_in}
+use Rattle.hv_job_acts.specs.hv_acts.specs.Going.{IsOpenHouse}
 use Rattle.hv_clean.specs.Passing.{CleanEach}
 use Rattle.hv_clean.specs.Removing.{AreKnown}
 use Rattle.hv_clean.proofs.cleaning.clean_jobs.Given as goal

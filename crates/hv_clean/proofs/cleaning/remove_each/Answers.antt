@@ -2,7 +2,7 @@ use Rattle.hv_actor.specs.Acting.{known}
 use Rattle.std.proofs.Common.{rules, sym, ◌∙◌, ap, subst}
 use Rattle.hv_clean.specs.declared.cleaning.Removal.{Removal}
 use Rattle.hv_clean.specs.Removing.{ends, RemovalSays}
-use Rattle.hv_compact.specs.hv_job_acts.specs.hv_acts.specs.Told.{trail_in}
+use Rattle.hv_job_acts.specs.hv_acts.specs.Told.{trail_in}
 use Rattle.hv_clean.proofs.Moved.{less-behind, moves-sweeps}
 use Rattle.hv_clean.proofs.Turns.{RemovesUpTo, up-none, up-first, up-sweeps, up-says, up-ends, up-more, up-end, empty-rest}
 use Rattle.hv_clean.proofs.cleaning.remove_each.Goals as goal

@@ -1,5 +1,5 @@
 use Rattle.hv_history.specs.Lasting.{IsFront}
-use Rattle.hv_compact.specs.hv_job_acts.specs.hv_acts.specs.Told.{trail_in}
+use Rattle.hv_job_acts.specs.hv_acts.specs.Told.{trail_in}
 use Rattle.hv_actor.specs.Acting.{known}
 use Rattle.hv_clean.specs.Stopping.{refusal_of}
 use Rattle.hv_clean.proofs.Lasts.{covered-lasts}

@@ -2,16 +2,16 @@ use Rattle.hv_actor.specs.Acting.{known}
 use Rattle.std.specs.Prelude.{Result}
 use Rattle.hv_trail.specs.Steps.{HouseSeen}
 use Rattle.hv_trail.specs.Trail.{book_of}
-use Rattle.hv_compact.specs.hv_job_acts.specs.Questions.{AnswersSo}
+use Rattle.hv_job_acts.specs.Questions.{AnswersSo}
 use Rattle.std.proofs.Common.{◌≡◌, ℕ, List, sym, ◌∙◌, ap, subst}
 use Rattle.std.specs.Prelude.{IfOk}
 use Rattle.std.specs.Global.{Vec}
 use Rattle.hv_history.specs.declared.entry.Entry.{Entry}
 use Rattle.hv_history.specs.State.{state_of}
 use Rattle.hv_actor.specs.Acting.{among, numbers_from}
-use Rattle.hv_compact.specs.hv_job_acts.specs.hv_acts.specs.Told.{trail_in}
-use Rattle.hv_compact.specs.hv_job_acts.specs.declared.asking.LostId.{LostId}
-use Rattle.hv_compact.specs.hv_job_acts.specs.Work.{lost_in}
+use Rattle.hv_job_acts.specs.hv_acts.specs.Told.{trail_in}
+use Rattle.hv_job_acts.specs.declared.asking.LostId.{LostId}
+use Rattle.hv_job_acts.specs.Work.{lost_in}
 use Rattle.hv_clean.specs.Passing.{ForgetTables, last_table}
 use Rattle.hv_clean.specs.Removing.{AreLost}
 use Rattle.hv_clean.proofs.Holds.{asked-so, asked-less, asked-says}

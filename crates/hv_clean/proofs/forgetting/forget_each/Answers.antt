@@ -1,7 +1,7 @@
 use Rattle.hv_actor.specs.Acting.{known}
 use Rattle.std.proofs.Common.{◌≡◌, ◌+◌, ℕ, List, sym, subst, arith}
 use Rattle.hv_actor.specs.Acting.{among, numbers_from}
-use Rattle.hv_compact.specs.hv_job_acts.specs.hv_acts.specs.Told.{trail_in}
+use Rattle.hv_job_acts.specs.hv_acts.specs.Told.{trail_in}
 use Rattle.hv_clean.specs.Passing.{ForgetTables, ids_of}
 use Rattle.hv_clean.proofs.Moved.{sweeps-none, tables-more, moves-tables, moves-table, moves-front, less-behind}
 use Rattle.hv_clean.proofs.Lasts.{all-lost}

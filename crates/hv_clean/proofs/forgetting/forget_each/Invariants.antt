@@ -1,7 +1,7 @@
 use Rattle.hv_actor.specs.Acting.{known}
 use Rattle.hv_actor.specs.Acting.{among, numbers_from}
-use Rattle.hv_compact.specs.hv_job_acts.specs.hv_acts.specs.Told.{trail_in}
-use Rattle.hv_compact.specs.hv_job_acts.specs.hv_acts.specs.Going.{IsOpenHouse}
+use Rattle.hv_job_acts.specs.hv_acts.specs.Told.{trail_in}
+use Rattle.hv_job_acts.specs.hv_acts.specs.Going.{IsOpenHouse}
 use Rattle.hv_clean.specs.Passing.{ForgetTables}
 use Rattle.hv_clean.specs.Removing.{AreLost}
 use Rattle.hv_clean.proofs.forgetting.forget_each.Given as goal

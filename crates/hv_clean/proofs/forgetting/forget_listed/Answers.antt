@@ -2,8 +2,8 @@ use Rattle.hv_actor.specs.Acting.{known}
 use Rattle.std.proofs.Common.{[], ◌∷◌, List, take, get_or, sym, subst}
 use Rattle.std.proofs.lemmas.List.{take_all}
 use Rattle.hv_actor.specs.Acting.{among}
-use Rattle.hv_compact.specs.hv_job_acts.specs.hv_acts.specs.Told.{trail_in}
-use Rattle.hv_compact.specs.hv_job_acts.specs.declared.asking.LostId.{LostId}
+use Rattle.hv_job_acts.specs.hv_acts.specs.Told.{trail_in}
+use Rattle.hv_job_acts.specs.declared.asking.LostId.{LostId}
 use Rattle.hv_clean.specs.Passing.{ForgetEach, ids_of}
 use Rattle.hv_clean.proofs.Moved.{sweeps-none, ids-append, moves-ids, moves-front, less-behind}
 use Rattle.hv_clean.proofs.Lasts.{all-lost}

@@ -1,8 +1,8 @@
 use Rattle.hv_actor.specs.Acting.{known}
 use Rattle.std.proofs.Common.{take}
 use Rattle.hv_actor.specs.Acting.{among}
-use Rattle.hv_compact.specs.hv_job_acts.specs.hv_acts.specs.Told.{trail_in}
-use Rattle.hv_compact.specs.hv_job_acts.specs.hv_acts.specs.Going.{IsOpenHouse}
+use Rattle.hv_job_acts.specs.hv_acts.specs.Told.{trail_in}
+use Rattle.hv_job_acts.specs.hv_acts.specs.Going.{IsOpenHouse}
 use Rattle.hv_clean.specs.Passing.{ForgetEach, ids_of}
 use Rattle.hv_clean.specs.Removing.{AreLost}
 use Rattle.hv_clean.proofs.forgetting.forget_listed.Given as goal

@@ -1,6 +1,6 @@
 use Rattle.hv_actor.specs.Acting.{known}
 use Rattle.std.proofs.Common.{sym, ◌∙◌}
-use Rattle.hv_compact.specs.hv_job_acts.specs.hv_acts.specs.Told.{trail_in}
+use Rattle.hv_job_acts.specs.hv_acts.specs.Told.{trail_in}
 use Rattle.hv_clean.specs.Passing.{ids_of}
 use Rattle.hv_clean.proofs.Moved.{less-up, moves-sweeps, moves-front}
 use Rattle.hv_clean.proofs.Lasts.{all-lost}

@@ -1,7 +1,7 @@
 use Rattle.hv_clean.specs.Stopping.{refusal_of}
 use Rattle.std.specs.Prelude.{None, Result}
 use Rattle.hv_trail.specs.Steps.{HouseSeen, Read}
-use Rattle.hv_compact.specs.hv_job_acts.specs.Reading.{PlacesSo}
+use Rattle.hv_job_acts.specs.Reading.{PlacesSo}
 use Rattle.hv_clean.proofs.Holds.{behind-err, read-swept, read-quietly}
 use Rattle.hv_clean.proofs.Forgets.{listed-refused, list-sweeps, list-less}
 use Rattle.hv_clean.proofs.forgetting.list.Goals as goal

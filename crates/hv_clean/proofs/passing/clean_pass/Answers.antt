@@ -2,14 +2,14 @@ use Rattle.hv_actor.specs.Acting.{known}
 use Rattle.std.specs.Prelude.{Result}
 use Rattle.hv_trail.specs.Steps.{HouseSeen}
 use Rattle.hv_trail.specs.Trail.{book_of}
-use Rattle.hv_compact.specs.hv_job_acts.specs.Questions.{AnswersSo}
+use Rattle.hv_job_acts.specs.Questions.{AnswersSo}
 use Rattle.std.proofs.Common.{◌≡◌, List, sym, ◌∙◌, subst}
 use Rattle.std.specs.Global.{Vec}
 use Rattle.hv_base.specs.declared.ids.JobId.{JobId}
 use Rattle.hv_history.specs.declared.entry.Entry.{Entry}
 use Rattle.hv_history.specs.State.{state_of}
-use Rattle.hv_compact.specs.hv_job_acts.specs.hv_acts.specs.Told.{trail_in}
-use Rattle.hv_compact.specs.hv_job_acts.specs.Work.{ready_in}
+use Rattle.hv_job_acts.specs.hv_acts.specs.Told.{trail_in}
+use Rattle.hv_job_acts.specs.Work.{ready_in}
 use Rattle.hv_clean.specs.Removing.{AreKnown}
 use Rattle.hv_clean.proofs.Holds.{asked-so, asked-less, asked-says}
 use Rattle.hv_clean.proofs.Moved.{pass-ok, pass-later, pass-running, less-up, moves-asks}

@@ -2,13 +2,13 @@ use Rattle.hv_actor.specs.Acting.{known}
 use Rattle.std.specs.Prelude.{Result}
 use Rattle.hv_trail.specs.Steps.{HouseSeen}
 use Rattle.hv_trail.specs.Trail.{book_of}
-use Rattle.hv_compact.specs.hv_job_acts.specs.Questions.{AnswersSo}
+use Rattle.hv_job_acts.specs.Questions.{AnswersSo}
 use Rattle.std.proofs.Common.{◌≡◌, Bool, List, ◌∙◌}
 use Rattle.std.specs.Global.{Vec}
 use Rattle.hv_history.specs.declared.entry.Entry.{Entry}
 use Rattle.hv_history.specs.State.{state_of}
-use Rattle.hv_compact.specs.hv_job_acts.specs.hv_acts.specs.Told.{trail_in}
-use Rattle.hv_compact.specs.hv_job_acts.specs.Work.{live_in}
+use Rattle.hv_job_acts.specs.hv_acts.specs.Told.{trail_in}
+use Rattle.hv_job_acts.specs.Work.{live_in}
 use Rattle.hv_clean.proofs.Holds.{asked-so, asked-less, asked-says}
 use Rattle.hv_clean.proofs.Moved.{asks-sweeps, sweeps-ok, less-up, moves-asks, front-itself}
 use Rattle.hv_clean.proofs.sweeping.sweep_all.Goals as goal

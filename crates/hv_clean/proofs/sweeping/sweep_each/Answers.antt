@@ -1,9 +1,9 @@
 use Rattle.hv_actor.specs.Acting.{known}
 use Rattle.std.proofs.Common.{rules, subst}
 use Rattle.std.specs.List.{AllByRecursion}
-use Rattle.hv_compact.specs.hv_job_acts.specs.hv_acts.specs.Told.{trail_in}
+use Rattle.hv_job_acts.specs.hv_acts.specs.Told.{trail_in}
 use Rattle.hv_trail.specs.Trail.{state_at}
-use Rattle.hv_compact.specs.hv_job_acts.specs.hv_job_calls.specs.Refusals.{CanSweep}
+use Rattle.hv_job_acts.specs.hv_job_calls.specs.Refusals.{CanSweep}
 use Rattle.hv_clean.proofs.Lasts.{all-sweepable}
 use Rattle.hv_clean.proofs.Moved.{sweeps-none, sweeps-then, moves-sweeps, moves-front, less-behind}
 use Rattle.hv_clean.proofs.Turns.{head-of, tail-of}

@@ -1,6 +1,6 @@
 use Rattle.hv_actor.specs.Acting.{known}
 use Rattle.hv_actor.specs.Acting.{among}
-use Rattle.hv_compact.specs.hv_job_acts.specs.hv_acts.specs.Told.{trail_in}
+use Rattle.hv_job_acts.specs.hv_acts.specs.Told.{trail_in}
 use Rattle.hv_clean.specs.Passing.{Sweeps}
 use Rattle.hv_clean.specs.Removing.{AreSweepable}
 use Rattle.hv_clean.proofs.sweeping.sweep_each.Given as goal

@@ -1,11 +1,11 @@
 use Rattle.hv_history.specs.Lasting.{IsFront}
-use Rattle.hv_compact.specs.hv_job_acts.specs.hv_acts.specs.Told.{trail_in}
+use Rattle.hv_job_acts.specs.hv_acts.specs.Told.{trail_in}
 use Rattle.hv_actor.specs.Acting.{known}
 use Rattle.hv_clean.specs.Stopping.{refusal_of}
 use Rattle.hv_trail.specs.Steps.{HouseSeen, Remove}
 use Rattle.hv_trail.specs.Trail.{state_at}
 use Rattle.std.specs.Prelude.{None, Result}
-use Rattle.hv_compact.specs.hv_job_acts.specs.Doing.{SweepsSo}
+use Rattle.hv_job_acts.specs.Doing.{SweepsSo}
 use Rattle.hv_clean.proofs.Holds.{behind-err, went-swept, remove-quietly}
 use Rattle.hv_clean.proofs.Lasts.{sweepable-lasts}
 use Rattle.hv_clean.proofs.Turns.{refused-sweeps, refused-less}

@@ -1,5 +1,5 @@
 use Rattle.hv_actor.specs.Acting.{known}
-use Rattle.hv_compact.specs.hv_job_acts.specs.hv_acts.specs.Told.{trail_in}
+use Rattle.hv_job_acts.specs.hv_acts.specs.Told.{trail_in}
 use Rattle.hv_clean.proofs.Moved.{less-lack}
 use Rattle.hv_clean.proofs.Forgets.{all-sweep-if}
 use Rattle.hv_clean.proofs.sweeping.sweep_places.Goals as goal

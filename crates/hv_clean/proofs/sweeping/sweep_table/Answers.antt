@@ -1,5 +1,5 @@
 use Rattle.hv_actor.specs.Acting.{known}
-use Rattle.hv_compact.specs.hv_job_acts.specs.hv_acts.specs.Told.{trail_in}
+use Rattle.hv_job_acts.specs.hv_acts.specs.Told.{trail_in}
 use Rattle.hv_clean.proofs.Moved.{sweeps-ok, less-up, moves-sweeps, moves-front}
 use Rattle.hv_clean.proofs.Lasts.{dropped-lasts}
 use Rattle.hv_clean.proofs.sweeping.sweep_table.Goals as goal

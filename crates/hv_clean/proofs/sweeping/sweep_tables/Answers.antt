@@ -1,6 +1,6 @@
 use Rattle.hv_actor.specs.Acting.{known}
 use Rattle.std.proofs.Common.{true, false, arith}
-use Rattle.hv_compact.specs.hv_job_acts.specs.hv_acts.specs.Told.{trail_in}
+use Rattle.hv_job_acts.specs.hv_acts.specs.Told.{trail_in}
 use Rattle.hv_clean.proofs.Moved.{sweeps-none, sweeps-then, moves-sweeps, moves-front, less-behind}
 use Rattle.hv_clean.proofs.Lasts.{dead-dropped, tables-last}
 use Rattle.hv_clean.proofs.sweeping.sweep_tables.Goals as goal
