@@ -14,10 +14,10 @@ use Rattle.hv_trail.specs.declared.trail.TrailItem.{TrailItem}
 use Rattle.hv_trail.specs.declared.trail.TrailItem.TheVariants.{Noted}
 use Rattle.hv_trail.specs.Trail.{state_at}
 use Rattle.hv_actor.specs.Acting.{AreRows, Setting, Moment, among, numbers_from}
-use Rattle.hv_compact.specs.hv_job_acts.specs.hv_acts.specs.declared.told.ToldHouse.{ToldHouse}
-use Rattle.hv_compact.specs.hv_job_acts.specs.hv_acts.specs.Told.{trail_in, book_in}
-use Rattle.hv_compact.specs.hv_job_acts.specs.declared.asking.LostId.{LostId}
-use Rattle.hv_compact.specs.hv_job_acts.specs.Work.{ready_in, lost_in}
+use Rattle.hv_job_acts.specs.hv_acts.specs.declared.told.ToldHouse.{ToldHouse}
+use Rattle.hv_job_acts.specs.hv_acts.specs.Told.{trail_in, book_in}
+use Rattle.hv_job_acts.specs.declared.asking.LostId.{LostId}
+use Rattle.hv_job_acts.specs.Work.{ready_in, lost_in}
 use Rattle.hv_clean.specs.declared.fault.Swept.{Swept}
 use Rattle.hv_clean.specs.Passing.{nothing, count_cleaned, count_forgotten, Asks, LeftOf, IdLeft, IsCleanedNow, IsForgottenNow, CleansOne, CleanEach, ForgetsOne, ForgetEach, ForgetsTable, ForgetTables, Passes, ids_of, last_table}
 use Rattle.hv_clean.specs.Alone.{AddsNothing, is_free, forgot_entry, AreSome, SweepsSome}

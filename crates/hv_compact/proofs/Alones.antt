@@ -13,19 +13,18 @@ use Rattle.hv_trail.specs.declared.trail.TrailItem.TheVariants.{Noted, Marked}
 use Rattle.hv_trail.specs.declared.trail.Mark.TheVariants.{Wrote, Went, Broke}
 use Rattle.hv_trail.specs.Trail.{book_of}
 use Rattle.hv_trail.proofs.LastingLaws.{book-append}
-use Rattle.hv_actor.specs.Acting.{Went as WentBetween, Woven, Nothing, Moment, among}
+use Rattle.hv_actor.specs.Acting.{Woven, Nothing, Moment, among}
 use Rattle.hv_actor.proofs.Weaving.{went-alone}
 use Rattle.hv_job_acts.specs.hv_acts.specs.declared.told.ToldHouse.{ToldHouse}
 use Rattle.hv_job_acts.specs.hv_acts.specs.Told.{trail_in, book_in}
-use Rattle.hv_job_acts.specs.hv_job_calls.specs.Refusals.{picking, number_in, to_pick, publishing_of}
+use Rattle.hv_job_acts.specs.hv_job_calls.specs.Refusals.{picking, number_in, to_pick}
 use Rattle.hv_job_acts.specs.declared.asking.PartAt.{PartAt}
 use Rattle.hv_job_acts.specs.Work.{parts_in}
 use Rattle.hv_job_acts.specs.Going.{AddsItems}
-use Rattle.hv_compact.specs.declared.compacting.Done.{Done as Finished}
 use Rattle.hv_compact.specs.declared.compacting.Done.TheVariants as done
 use Rattle.hv_compact.specs.Initiating.{asks_for, AreTurns}
-use Rattle.hv_compact.specs.Compacting.{IsMarkOf, IsWroteOf, NotesOne, EndsBy, CompactsSo}
-use Rattle.hv_compact.specs.Alone.{AddsNothing, initiated_from, initiated, InitiatesAlone, ended_with, picked_with, CompactsAlone}
+use Rattle.hv_compact.specs.Compacting.{IsMarkOf, IsWroteOf, NotesOne, EndsBy}
+use Rattle.hv_compact.specs.Alone.{AddsNothing, initiated_from, initiated, InitiatesAlone, CompactsAlone}
 use Rattle.hv_compact.proofs.Ends.{all-wrote}
 
 -- ---- fronts by length

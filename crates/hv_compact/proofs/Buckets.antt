@@ -1,14 +1,12 @@
 -- What is put together in a bucket: which buckets there are, and that it can be written.
-use Rattle.std.proofs.Common.{◌≡◌, ◌⊎◌, inl, inr, ◌≤◌, ◌<◌, ◌+◌, ℕ, zero, suc, Bool, true, false, cond, Option, Some, None, List, [], ◌∷◌, ◌++◌, map, filter, length, take, get_or, refl, sym, ap, ◌∙◌, subst, arith, eqb-true}
-use Rattle.std.specs.Prelude.{if◌then◌else◌, ◌==◌, ◌&&◌, nat_lt, nat_le, not}
+use Rattle.std.proofs.Common.{◌≡◌, ◌≤◌, ◌<◌, ◌+◌, ℕ, Bool, true, false, cond, Some, None, List, [], ◌∷◌, ◌++◌, map, filter, length, take, get_or, refl, sym, ap, ◌∙◌, subst, arith, eqb-true}
+use Rattle.std.specs.Prelude.{if◌then◌else◌, ◌==◌, ◌&&◌, nat_lt}
 use Rattle.std.specs.declared.cmp.Ordering.{Ordering}
 use Rattle.std.specs.declared.cmp.Ordering.TheVariants.{Less, Equal, Greater}
-use Rattle.std.specs.Cmp.{IsTotalOrder}
-use Rattle.std.specs.List.{AllByRecursion, flat_map, filter_map}
+use Rattle.std.specs.List.{AllByRecursion, flat_map}
 use Rattle.std.proofs.lemmas.Bool.Decides.{nat_tests}
-use Rattle.std.proofs.lemmas.List.{take_more, append-nil}
+use Rattle.std.proofs.lemmas.List.{take_more}
 use Rattle.std.proofs.lemmas.List.Concat.{flat_map-cons}
-use Rattle.hv_base.specs.declared.ids.RowId.{RowId}
 use Rattle.hv_base.specs.Sorting.{merged_by, merge_by, rising_by}
 use Rattle.hv_wids.specs.WriteIds.{WriteIds}
 use Rattle.hv_dirs.specs.Choice.{sight_of}
@@ -22,7 +20,7 @@ use Rattle.hv_law_visible.proofs.SortingLemmas.{Below, Rises, rises-rising}
 use Rattle.hv_law_visible.proofs.RowLemmas.{by_id-total}
 use Rattle.hv_merge.specs.declared.shown.Shown.{Shown}
 use Rattle.hv_merge.specs.Gathering.{rec_cmp, is_in_range, in_range, gathered}
-use Rattle.hv_merge.specs.Merging.{row_of, rows_in, deletes_in, id_of, merged}
+use Rattle.hv_merge.specs.Merging.{rows_in, deletes_in, id_of, merged}
 use Rattle.hv_compact.specs.Gathering.{takes, is_taken, taken_in, larger, buckets_of, inserted}
 use Rattle.hv_compact.specs.Reading.{AreFilesOf}
 

@@ -1,60 +1,52 @@
 -- The acts with which a job ends, and with which it was taken up.
-use Rattle.std.proofs.Common.{◌≡◌, ◌⊎◌, inl, inr, ◌≤◌, ◌<◌, ◌+◌, ℕ, zero, suc, Bool, true, false, if◌then◌else◌, true≢false, Option, Some, None, option_map, List, [], ◌∷◌, ◌++◌, Result, Ok, Err, refl, sym, ap, ◌∙◌, subst, append-nil, arith}
-use Rattle.std.specs.Prelude.{IfOk, IfErr, IsSome, is_some, IsSomeAnd, ◌&&◌, Contains}
-use Rattle.std.specs.List.{AllByRecursion, slice_get}
+use Rattle.std.proofs.Common.{◌≡◌, ◌+◌, ℕ, zero, suc, Bool, true, false, if◌then◌else◌, Option, Some, None, List, [], ◌∷◌, Result, Ok, Err, refl, sym, ap, ◌∙◌, subst, append-nil, arith}
+use Rattle.std.specs.Prelude.{IfOk, IfErr, IsSome, IsSomeAnd, ◌&&◌}
+use Rattle.std.specs.List.{slice_get}
 use Rattle.hv_base.specs.declared.ids.JobId.{JobId}
 use Rattle.hv_base.specs.declared.ids.WriteId.{WriteId}
 use Rattle.hv_shelf.specs.Disk.{Store}
 use Rattle.hv_history.specs.declared.entry.Entry.{Entry}
 use Rattle.hv_history.specs.declared.entry.Entry.TheVariants as entry
-use Rattle.hv_history.specs.declared.entry.JobCause.{JobCause}
-use Rattle.hv_history.specs.declared.entry.JobCause.TheVariants as cause
 use Rattle.hv_history.specs.State.{State, Job, numbered, changed, changed_at, after, picked, first_of, state_of}
-use Rattle.hv_history.specs.Jobs.{Pieces, is_initiated, pieces_for}
-use Rattle.hv_history.specs.JobsFit.{OfJob, is_live_job, first_initiated, EmptyFits, FailedFits}
+use Rattle.hv_history.specs.Jobs.{Pieces, is_initiated}
+use Rattle.hv_history.specs.JobsFit.{is_live_job, first_initiated}
 use Rattle.hv_history.specs.Lasting.{IsFront}
-use Rattle.hv_queue.specs.Queue.{pieces_in}
-use Rattle.hv_trail.specs.declared.trail.Reader.TheVariants as reader
 use Rattle.hv_history.specs.Legal.{profile}
 use Rattle.hv_trail.specs.declared.trail.TrailItem.{TrailItem}
 use Rattle.hv_trail.specs.declared.trail.TrailItem.TheVariants.{Noted}
 use Rattle.hv_trail.specs.Trail.{book_of, state_at}
-use Rattle.hv_trail.specs.Steps.{HouseSeen, Call, Note, Publish, Ask, Done, Refused, Failed, MayEnd, gains, Step}
-use Rattle.hv_trail.proofs.LastingLaws.{book-append, state-append}
+use Rattle.hv_trail.specs.Steps.{HouseSeen, Call, Note, Publish, Refused}
+use Rattle.hv_trail.proofs.LastingLaws.{state-append}
 use Rattle.hv_actor.specs.Acting.{IsLater, Went, Moment, AreRows, among}
 use Rattle.hv_job_acts.specs.hv_acts.specs.declared.told.ToldHouse.{ToldHouse}
 use Rattle.hv_job_acts.specs.hv_acts.specs.Told.{IsWholeOrClosed, seen_in, trail_in}
 use Rattle.hv_job_acts.specs.hv_acts.specs.hv_telling.specs.hv_house.specs.Calls.{LacksRoom}
 use Rattle.hv_job_acts.specs.hv_acts.specs.Going.{IsOpenHouse}
-use Rattle.hv_job_acts.specs.hv_acts.specs.hv_telling.specs.Telling.{IsTold, IsToldHouse}
-use Rattle.hv_job_acts.specs.hv_acts.specs.hv_telling.specs.hv_house.specs.House.{IsSmall}
+use Rattle.hv_job_acts.specs.hv_acts.specs.hv_telling.specs.Telling.{IsTold}
 use Rattle.hv_job_acts.specs.hv_acts.specs.hv_telling.specs.hv_house.specs.declared.fault.HouseFault.TheVariants as house_fault
 use Rattle.hv_job_acts.specs.hv_job_calls.specs.declared.fault.JobFault.TheVariants as fault
 use Rattle.hv_job_acts.specs.hv_job_calls.specs.Refusals.{to_pick, picking, publishing_of, published_by}
 use Rattle.hv_job_acts.specs.hv_job_calls.specs.Staging.{renamings_of}
-use Rattle.hv_job_acts.specs.hv_job_calls.specs.Tests.{IsGoneOrHouse, IsHouse}
 use Rattle.hv_job_acts.specs.declared.fault.JobActFault.{JobActFault}
 use Rattle.hv_job_acts.specs.declared.fault.JobActFault.TheVariants as act
 use Rattle.hv_job_acts.specs.declared.noting.PickedJob.{PickedJob}
 use Rattle.hv_job_acts.specs.declared.staging.Publication.{Publication}
-use Rattle.hv_job_acts.specs.Answers.{answer_call, answer_outcome, adds_by, WhyLeaves, act_call, act_outcome}
+use Rattle.hv_job_acts.specs.Answers.{answer_call, adds_by, WhyLeaves}
 use Rattle.hv_job_acts.specs.Asking.{picked_entry, call_to_pick, adds_found, PicksSo}
-use Rattle.hv_job_acts.specs.Doing.{EmptySo, GivesUpSo, PublishesSo, IfCallOrUnfit, IfPublishing, IsStagedDue, published_entry, call_to_publish, adds_published}
+use Rattle.hv_job_acts.specs.Doing.{PublishesSo, IfPublishing, IsStagedDue, published_entry, call_to_publish, adds_published}
 use Rattle.hv_job_acts.specs.Going.{AddsItems}
-use Rattle.hv_job_acts.specs.Marked.{HasJobMark}
 use Rattle.hv_compact.specs.declared.task.Task.{Task}
 use Rattle.hv_compact.specs.declared.fault.RunFault.{RunFault}
-use Rattle.hv_compact.specs.declared.fault.Stop.{Stop}
 use Rattle.hv_compact.specs.declared.compacting.Done.{Done as Finished}
 use Rattle.hv_compact.specs.declared.compacting.Done.TheVariants as done
-use Rattle.hv_compact.specs.Stopping.{act_stop, act_run, IsOfJob, IsPicking, IsFullFor, RunsOut, MayGiveUp, StopsSo}
-use Rattle.hv_compact.specs.Compacting.{IsMarkOf, IsWroteOf, NotesOne, CompactsSo, StopsWith, IsIdle, HasStaged, StagedWhile}
-use Rattle.hv_compact.specs.Ending.{task_of, IsPicked, IfPicked, IsThere, EndsWith, EndsPublished, EndsGiven, EndsIn, EndsLess, EndsFound, LessFound, IsIdleDone, IsLeftBy}
-use Rattle.hv_compact.proofs.Adds.{front-more, front-itself, front-added, adds-none, adds-as}
-use Rattle.hv_compact.proofs.Stops.{job_mark, open-behind}
+use Rattle.hv_compact.specs.Stopping.{act_stop, act_run, IsOfJob, IsPicking, IsFullFor, RunsOut, StopsSo}
+use Rattle.hv_compact.specs.Compacting.{IsWroteOf, NotesOne, CompactsSo, StopsWith, IsIdle, HasStaged}
+use Rattle.hv_compact.specs.Ending.{IsPicked, IfPicked, IsThere, EndsWith, EndsIn, EndsFound, LessFound, IsIdleDone, IsLeftBy}
+use Rattle.hv_compact.proofs.Adds.{front-more, front-itself, front-added, adds-as}
+use Rattle.hv_compact.proofs.Stops.{open-behind}
 use Rattle.hv_compact.proofs.Held.{HeldOf, note-none, reached-front, held-as, adds-of, done-open, done-answers, refused-runs, refused-stops}
 use Rattle.hv_compact.proofs.Later.{told-fitting, found-later}
-use Rattle.hv_compact.proofs.Ends.{broken-mark, noted-one, ends-now, less-now, mark-later, compacts-picked, picked-running, picked-later, picked-stops}
+use Rattle.hv_compact.proofs.Ends.{broken-mark, noted-one, ends-now, compacts-picked, picked-running, picked-later, picked-stops}
 
 -- ---- a job that was there, and one that is taken up
 

@@ -1,11 +1,10 @@
 -- How a job that was taken up ends.
-use Rattle.std.proofs.Common.{◌≡◌, ◌⊎◌, inl, inr, ◌≤◌, ◌<◌, ◌+◌, ℕ, zero, suc, Bool, true, false, if◌then◌else◌, true≢false, Option, Some, None, option_map, List, [], ◌∷◌, ◌++◌, Result, Ok, Err, refl, sym, ap, ◌∙◌, subst, append-nil, append_assoc, arith}
-use Rattle.std.specs.Prelude.{IfOk, IfErr, IsSome, is_some, IsSomeAnd, ◌==◌, ◌&&◌, Contains}
-use Rattle.std.specs.List.{AllByRecursion, slice_get}
+use Rattle.std.proofs.Common.{◌≡◌, ◌+◌, ℕ, Bool, true, false, if◌then◌else◌, true≢false, Option, Some, None, List, [], ◌∷◌, ◌++◌, Result, Ok, Err, refl, sym, subst, arith}
+use Rattle.std.specs.Prelude.{IfOk, IfErr, Contains}
+use Rattle.std.specs.List.{AllByRecursion}
 use Rattle.std.proofs.lemmas.Bool.{eqb-true}
 use Rattle.std.proofs.lemmas.List.Elements.{Contains-append_left, Contains-append_right}
 use Rattle.hv_base.specs.declared.ids.JobId.{JobId}
-use Rattle.hv_base.specs.declared.ids.WriteId.{WriteId}
 use Rattle.hv_shelf.specs.Disk.{Store}
 use Rattle.hv_history.specs.declared.entry.Entry.{Entry}
 use Rattle.hv_history.specs.declared.entry.Entry.TheVariants as entry
@@ -18,24 +17,22 @@ use Rattle.hv_trail.specs.declared.trail.Mark.TheVariants.{Wrote, Went, Broke}
 use Rattle.hv_trail.specs.declared.trail.TrailItem.{TrailItem}
 use Rattle.hv_trail.specs.declared.trail.TrailItem.TheVariants.{Noted, Marked}
 use Rattle.hv_trail.specs.Trail.{book_of, broken, is_reader}
-use Rattle.hv_trail.specs.Steps.{HouseSeen, Call, Note, Done, Failed, MayEnd, gains, Step}
 use Rattle.hv_table_rows.proofs.Names.{all-append}
-use Rattle.hv_actor.specs.Acting.{IsLater, Went as WentBetween, Moment, AreRows, among}
+use Rattle.hv_actor.specs.Acting.{IsLater, Moment, AreRows, among}
 use Rattle.hv_job_acts.specs.hv_acts.specs.declared.told.ToldHouse.{ToldHouse}
 use Rattle.hv_job_acts.specs.hv_acts.specs.Told.{seen_in, trail_in}
 use Rattle.hv_job_acts.specs.hv_acts.specs.Going.{IsOpenHouse}
-use Rattle.hv_job_acts.specs.declared.fault.JobActFault.{JobActFault}
 use Rattle.hv_job_acts.specs.declared.noting.PickedJob.{PickedJob}
 use Rattle.hv_job_acts.specs.Going.{AddsItems}
 use Rattle.hv_job_acts.specs.Marked.{HasJobMark}
-use Rattle.hv_job_acts.specs.hv_job_calls.specs.Refusals.{picking, publishing_of}
+use Rattle.hv_job_acts.specs.hv_job_calls.specs.Refusals.{picking}
 use Rattle.hv_compact.specs.declared.fault.RunFault.{RunFault}
 use Rattle.hv_compact.specs.declared.compacting.Done.{Done as Finished}
 use Rattle.hv_compact.specs.declared.compacting.Done.TheVariants as done
-use Rattle.hv_compact.specs.Stopping.{IsOfJob, IsPicking, IsAtWork, RunsOut, MayGiveUp}
-use Rattle.hv_compact.specs.Compacting.{IsMarkOf, IsWroteOf, Works, NotesOne, EndsBy, PublishesOne, CompactsSo, StopsWith}
-use Rattle.hv_compact.specs.Ending.{EndsWith, EndsPublished, EndsGiven, EndsIn, EndsLess, EndsFound, LessFound}
-use Rattle.hv_compact.proofs.Adds.{front-more, front-itself, adds-none, adds-more, adds-front}
+use Rattle.hv_compact.specs.Stopping.{IsOfJob, IsAtWork, RunsOut}
+use Rattle.hv_compact.specs.Compacting.{IsMarkOf, IsWroteOf, NotesOne, EndsBy, PublishesOne, CompactsSo, StopsWith}
+use Rattle.hv_compact.specs.Ending.{EndsWith, EndsGiven, EndsIn, EndsLess}
+use Rattle.hv_compact.proofs.Adds.{adds-none, adds-more}
 use Rattle.hv_compact.proofs.Stops.{job_mark}
 
 -- ---- marks of calls that failed

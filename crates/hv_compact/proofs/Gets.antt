@@ -1,11 +1,10 @@
 -- Files of a job that are read, one after another.
-use Rattle.std.proofs.Common.{◌≡◌, ◌≤◌, ◌<◌, ◌+◌, inl, inr, ℕ, zero, suc, arith, Bool, true, false, Option, Some, None, List, [], ◌∷◌, ◌++◌, map, filter, take, get_or, length, Result, Ok, Err, refl, sym, ap, ◌∙◌, subst, append-nil, append_assoc, eqb-true}
-use Rattle.std.specs.Prelude.{IfOk, IfErr, OnOk, ◌==◌, ◌&&◌, if◌then◌else◌}
+use Rattle.std.proofs.Common.{◌≡◌, ◌<◌, ◌+◌, inl, inr, ℕ, zero, suc, arith, Bool, true, false, Option, Some, None, List, [], ◌∷◌, ◌++◌, map, take, get_or, length, Result, Ok, Err, refl, sym, ap, ◌∙◌, subst, append-nil, eqb-true}
+use Rattle.std.specs.Prelude.{IfOk, IfErr, ◌==◌, if◌then◌else◌}
 use Rattle.std.specs.List.{AllByRecursion}
 use Rattle.std.specs.Global.{Vec}
-use Rattle.std.proofs.lemmas.List.{take_more, take_all, map-append}
+use Rattle.std.proofs.lemmas.List.{take_more, map-append}
 use Rattle.std.proofs.lemmas.List.Elements.{filter-append}
-use Rattle.std.proofs.lemmas.Result.{on_ok_weaker}
 use Rattle.hv_base.specs.declared.ids.JobId.{JobId}
 use Rattle.hv_shelf.specs.declared.place.Place.{Place}
 use Rattle.hv_shelf.specs.Disk.{Store}
@@ -24,23 +23,19 @@ use Rattle.hv_table_rows.proofs.Fronts.{none-amiss}
 use Rattle.hv_table_rows.proofs.Names.{all-append}
 use Rattle.hv_trail.specs.declared.trail.Reader.TheVariants as reader
 use Rattle.hv_trail.specs.declared.trail.TrailItem.{TrailItem}
-use Rattle.hv_trail.specs.Trail.{state_at}
 use Rattle.hv_trail.specs.Steps.{HouseSeen, Call, Read}
 use Rattle.hv_trail.proofs.Asked.{both}
 use Rattle.hv_actor.specs.Acting.{IsLater, Went, Moment, AreRows, among}
 use Rattle.hv_job_acts.specs.hv_acts.specs.declared.told.ToldHouse.{ToldHouse}
 use Rattle.hv_job_acts.specs.hv_acts.specs.Told.{seen_in, trail_in}
 use Rattle.hv_job_acts.specs.hv_acts.specs.Going.{IsOpenHouse}
-use Rattle.hv_job_acts.specs.hv_acts.specs.Reading.{HasFittingBook}
 use Rattle.hv_job_acts.specs.hv_acts.proofs.ReadSteps.{fitting-book}
 use Rattle.hv_job_acts.specs.hv_acts.specs.hv_telling.specs.Telling.{IsTold, IsToldHouse}
 use Rattle.hv_job_acts.specs.hv_job_calls.specs.Tests.{IsGoneOrHouse}
 use Rattle.hv_job_acts.specs.declared.fault.JobActFault.{JobActFault}
-use Rattle.hv_job_acts.specs.declared.fault.JobActFault.TheVariants as act
 use Rattle.hv_job_acts.specs.Answers.{answer_call, adds_by, WhyLeaves}
 use Rattle.hv_job_acts.specs.Doing.{GetsSo, IsMadeOf, IfCallOrUnfit}
 use Rattle.hv_job_acts.specs.Going.{AddsItems}
-use Rattle.hv_compact.specs.declared.task.Task.{Task}
 use Rattle.hv_compact.specs.declared.fault.Stop.{Stop}
 use Rattle.hv_compact.specs.declared.fault.Stop.TheVariants as stop
 use Rattle.hv_compact.specs.Stopping.{act_stop, StopsSo}
@@ -49,7 +44,7 @@ use Rattle.hv_compact.specs.Gathering.{takes, is_taken, taken_in, StandsWhile}
 use Rattle.hv_compact.specs.Reading.{lacking, IsSpoilt, AreFilesOf, ReadsOne, ReadsEach}
 use Rattle.hv_compact.proofs.Short.{short_damaged}
 use Rattle.hv_compact.proofs.Adds.{front-more, adds-none, adds-more, adds-front, adds-told}
-use Rattle.hv_compact.proofs.Stops.{job_mark, may-memory}
+use Rattle.hv_compact.proofs.Stops.{may-memory}
 use Rattle.hv_compact.proofs.Held.{HeldOf, read-marks, reached-front, held-as, adds-of, done-open, done-answers, refused-stops, works-ok, works-err}
 
 -- ---- the bytes of a file

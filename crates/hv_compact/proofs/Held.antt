@@ -1,6 +1,6 @@
 -- One act of a job, or of an initiator: what it added, and what it leaves.
-use Rattle.std.proofs.Common.{◌≡◌, ℕ, Bool, true, false, Option, Some, None, List, [], ◌∷◌, ◌++◌, Result, Ok, Err, refl, sym, ap, ◌∙◌, subst, append-nil}
-use Rattle.std.specs.Prelude.{IfOk, Contains}
+use Rattle.std.proofs.Common.{◌≡◌, ℕ, Bool, Option, Some, List, [], ◌∷◌, Result, Ok, Err, refl, subst}
+use Rattle.std.specs.Prelude.{Contains}
 use Rattle.std.specs.List.{AllByRecursion}
 use Rattle.hv_base.specs.declared.ids.JobId.{JobId}
 use Rattle.hv_shelf.specs.Disk.{Store}
@@ -8,7 +8,7 @@ use Rattle.hv_history.specs.declared.entry.Entry.{Entry}
 use Rattle.hv_history.specs.Lasting.{IsFront}
 use Rattle.hv_trail.specs.declared.trail.Reader.TheVariants as reader
 use Rattle.hv_trail.specs.declared.trail.TrailItem.{TrailItem}
-use Rattle.hv_trail.specs.Steps.{HouseSeen, Call, Note, Read, Done, Failed, MayEnd, gains, shuts, Step}
+use Rattle.hv_trail.specs.Steps.{HouseSeen, Call, Note, Read, Done, Failed, MayEnd, gains, Step}
 use Rattle.hv_actor.specs.Acting.{IsLater, Held, Went, Moment, among}
 use Rattle.hv_actor.proofs.Weaving.{later-further}
 use Rattle.hv_job_acts.specs.hv_acts.specs.declared.told.ToldHouse.{ToldHouse}
@@ -18,13 +18,12 @@ use Rattle.hv_job_acts.specs.hv_acts.specs.hv_telling.specs.hv_house.specs.decla
 use Rattle.hv_job_acts.specs.hv_job_calls.specs.declared.fault.JobFault.TheVariants as fault
 use Rattle.hv_job_acts.specs.declared.fault.JobActFault.{JobActFault}
 use Rattle.hv_job_acts.specs.declared.fault.JobActFault.TheVariants as act
-use Rattle.hv_job_acts.specs.Answers.{act_call, act_outcome, answer_outcome, answer_call, adds_by, WhyLeaves, AnswerLeaves, JobDoes}
+use Rattle.hv_job_acts.specs.Answers.{act_call, act_outcome, answer_outcome, JobDoes}
 use Rattle.hv_job_acts.specs.Going.{AddsItems}
 use Rattle.hv_job_acts.specs.Laters.{job_later}
 use Rattle.hv_compact.specs.Stopping.{act_stop, act_run, IsOfJob, RunsOut, StopsSo}
 use Rattle.hv_compact.specs.declared.fault.Stop.{Stop}
 use Rattle.hv_compact.specs.Compacting.{IsMarkOf, IsWroteOf, Works}
-use Rattle.hv_compact.proofs.Adds.{front-more, front-added}
 use Rattle.hv_compact.proofs.Stops.{job_mark, open-behind, runs-out, stops-for}
 
 -- ---- what a refusal of a call adds

@@ -1,13 +1,13 @@
 -- What a house that is found later has: its book fits, and a job that was there is there.
-use Rattle.std.proofs.Common.{◌≡◌, ◌≤◌, ◌<◌, ◌+◌, ◌⊎◌, inl, inr, ℕ, Bool, true, false, Option, Some, None, List, [], ◌∷◌, ◌++◌, length, fold, refl, sym, ap, ◌∙◌, subst, arith}
-use Rattle.std.specs.Prelude.{IsSomeAnd, Contains}
+use Rattle.std.proofs.Common.{◌≡◌, ◌+◌, ◌⊎◌, inl, inr, ℕ, Bool, true, false, Option, Some, List, ◌++◌, refl, sym, ap, ◌∙◌, subst, arith}
+use Rattle.std.specs.Prelude.{IsSomeAnd}
 use Rattle.std.proofs.lemmas.List.Elements.{Contains-append_left}
 use Rattle.hv_base.specs.declared.ids.JobId.{JobId}
 use Rattle.hv_shelf.specs.declared.place.Place.{Place}
 use Rattle.hv_shelf.specs.Disk.{Store}
 use Rattle.hv_dirs.specs.declared.names.DirName.{DirName}
 use Rattle.hv_history.specs.declared.entry.Entry.{Entry}
-use Rattle.hv_history.specs.State.{State, Job, nothing_yet, numbered, after, state_of}
+use Rattle.hv_history.specs.State.{State, Job, nothing_yet, numbered}
 use Rattle.hv_history.specs.Legal.{profile, AllFit}
 use Rattle.hv_history.specs.Lasting.{IsFront}
 use Rattle.hv_law_jobs.specs.Lasting.{JobLater}
@@ -18,7 +18,6 @@ use Rattle.hv_trail.specs.declared.trail.TrailItem.{TrailItem}
 use Rattle.hv_trail.specs.declared.trail.TrailItem.TheVariants.{Marked}
 use Rattle.hv_trail.specs.declared.trail.Mark.TheVariants.{Wrote}
 use Rattle.hv_trail.specs.Trail.{book_of, state_at, HasWritten}
-use Rattle.hv_trail.specs.Kept.{trail_of}
 use Rattle.hv_trail.proofs.LastingLaws.{state-append}
 use Rattle.hv_job_acts.specs.hv_acts.specs.declared.told.ToldHouse.{ToldHouse}
 use Rattle.hv_job_acts.specs.hv_acts.specs.Told.{IsWholeOrClosed, trail_in}

@@ -17,6 +17,7 @@ pub mod Wants
 pub mod Listings
 pub mod Lasts
 pub mod Naming
+pub mod NameFiles
 pub mod Taken
 pub mod Shown
 pub mod Only

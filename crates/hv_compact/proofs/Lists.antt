@@ -1,6 +1,6 @@
 -- What a listing says stays true while the job works; and once its buckets are staged, all that it is to stage is.
-use Rattle.std.proofs.Common.{◌≡◌, ◌⊎◌, inl, inr, ◌≤◌, ◌<◌, ◌+◌, ℕ, Bool, true, false, true≢false, Option, Some, None, List, [], ◌∷◌, ◌++◌, map, length, Result, Ok, Err, refl, sym, ap, ◌∙◌, subst, arith}
-use Rattle.std.specs.Prelude.{IfOk, IfErr, IsSomeAnd, ◌==◌, ◌||◌, not, nat_lt}
+use Rattle.std.proofs.Common.{◌≡◌, ◌⊎◌, inl, inr, ◌≤◌, ◌<◌, ◌+◌, ℕ, Bool, true, false, true≢false, Option, Some, None, List, [], ◌∷◌, map, length, Result, Ok, Err, refl, sym, ap, ◌∙◌, subst, arith}
+use Rattle.std.specs.Prelude.{IfOk, IsSomeAnd, ◌==◌, ◌||◌, not, nat_lt}
 use Rattle.std.proofs.lemmas.Bool.{eqb-true, eq-eqb}
 use Rattle.std.proofs.lemmas.Bool.Decides.{nat_tests}
 use Rattle.hv_base.specs.declared.ids.JobId.{JobId}
@@ -10,7 +10,7 @@ use Rattle.hv_choosing.specs.declared.listing.DirFile.{DirFile}
 use Rattle.hv_history.specs.declared.entry.JobKind.TheVariants as kind
 use Rattle.hv_history.specs.declared.state.Table.{Table}
 use Rattle.hv_history.specs.Lasting.{IsFront}
-use Rattle.hv_history.specs.State.{State, Job, numbered}
+use Rattle.hv_history.specs.State.{State, Job}
 use Rattle.hv_law_made.specs.Entries.{finals, IsAtWork}
 use Rattle.hv_law_visible.specs.Members.{IsIn}
 use Rattle.hv_law_work.specs.Work.{by_job, staged_at, wanted}
@@ -23,7 +23,7 @@ use Rattle.hv_job_acts.specs.hv_acts.specs.hv_telling.specs.hv_house.specs.decla
 use Rattle.hv_job_acts.specs.Doing.{IsStagedDue}
 use Rattle.hv_compact.specs.declared.task.Task.{Task}
 use Rattle.hv_compact.specs.declared.fault.Stop.{Stop}
-use Rattle.hv_compact.specs.Gathering.{taken_in, buckets_of, inserted, wide_of, base_of, files_in, minor_recs, major_recs, Whenever, IsToHave, HasNoFile, AreDue, ListsMinor, ListsMajor, ListsJob}
+use Rattle.hv_compact.specs.Gathering.{taken_in, buckets_of, inserted, wide_of, base_of, files_in, minor_recs, major_recs, Whenever, IsToHave, HasNoFile, AreDue, ListsJob}
 use Rattle.hv_compact.specs.Writing.{IfSome, gathered_of, IsStagedIn, HasMinorStaged, HasKindStaged, HasNone, HasBucketStaged, HasMajorStaged, HasBaseStaged, HasStagedAll, HasWrittenBase}
 use Rattle.hv_compact.specs.Reading.{ReadsEach}
 use Rattle.hv_compact.proofs.Adds.{front-more, front-itself}

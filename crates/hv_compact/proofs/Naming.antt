@@ -18,11 +18,12 @@ use Rattle.hv_choosing.specs.declared.listing.DirFile.{DirFile}
 use Rattle.hv_choosing.specs.Dirs.{name_of, dir_named, IsAt, IsFoundAt}
 use Rattle.hv_choosing.specs.Listing.{IsListed, AreListed}
 use Rattle.hv_choosing.specs.Taken.{names_of, runs, chosen_texts, is_in_one, run_taken, files_taken}
+use Rattle.hv_choosing.proofs.Partitions.{in-run}
 use Rattle.hv_choosing.proofs.Texts.{one, named-back}
 use Rattle.hv_law_made.proofs.NamedLemmas.{same-text, text-same}
 use Rattle.hv_stands.proofs.Numbers.{either}
 use Rattle.hv_law_visible.specs.Members.{IsIn}
-use Rattle.hv_law_visible.proofs.MemberLemmas.{from-flat, from-filter}
+use Rattle.hv_law_visible.proofs.MemberLemmas.{in-flat, from-flat, in-filter, from-filter}
 use Rattle.hv_job_acts.specs.hv_job_calls.specs.Listing.{is_part}
 use Rattle.hv_job_acts.specs.hv_acts.specs.hv_telling.specs.hv_house.specs.hv_law_read.specs.hv_law_whole.specs.hv_law_directories.specs.Directories.{is_of, names_in}
 use Rattle.hv_job_acts.specs.hv_acts.specs.hv_telling.specs.hv_house.specs.hv_law_read.specs.hv_law_whole.specs.hv_law_directories.proofs.GroupLemmas.{text_cmp, RisingParts, listed-rise, runs-are}
@@ -269,3 +270,24 @@ taken-in-part table files partition named part kind list file listed its h =
       among = subst (IsIn file) are here;
       taken = ap (λ (r : List DirFile). is_in_one (chosen_texts kind (sight_of list) (names_of r)) file) (sym whole) ∙ kept.1;
     }
+
+-- and one that is taken among all is taken of them
+pub part-taken : (table : TableId) (files : Tree) (partition : List ℕ) (named part : List DirFile) (kind : Bool) (list : WriteIds) (file : DirFile)
+    → AreListed (places_of table files) named → AreListed (filter (is_part partition) (places_of table files)) part
+    → IsIn file (files_taken kind list named) → file.place.partition ≡ partition → IsIn file (files_taken kind list part)
+unfolding files_taken run_taken
+part-taken table files partition named part kind list file listed its h here =
+    let at = from-flat (run_taken kind (sight_of list)) file (runs (length named) named) h in
+    let kept = from-filter (is_in_one (chosen_texts kind (sight_of list) (names_of at.0))) file at.0 at.2 in
+    let are : part ≡ filter (is_of partition) named = parts-are partition (places_of table files) named part listed its in
+    let rises : RisingParts named = listed-rise table files named listed in
+    let rise : RisingParts part = subst RisingParts (sym are) (rising-kept (is_of partition) named rises) in
+    let whole : at.0 ≡ part =
+    runs-are (length named) named at.0 file rises at.1 kept.0 ∙ ap (λ (p : List ℕ). filter (is_of p) named) here ∙ sym are in
+    let run = in-run (length part) part file (omega arith) (subst (IsIn file) whole kept.0) in
+    let again : run.0 ≡ part =
+    runs-are (length part) part run.0 file rise run.1 run.2 ∙ ap (λ (p : List ℕ). filter (is_of p) part) here
+    ∙ ap (filter (is_of partition)) are ∙ kept-twice (is_of partition) named ∙ sym are in
+    in-flat (run_taken kind (sight_of list)) run.0 file (runs (length part) part) run.1
+    (in-filter (is_in_one (chosen_texts kind (sight_of list) (names_of run.0))) file run.0 run.2
+    (ap (λ (r : List DirFile). is_in_one (chosen_texts kind (sight_of list) (names_of r)) file) (again ∙ sym whole) ∙ kept.1))

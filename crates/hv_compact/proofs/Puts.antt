@@ -1,6 +1,6 @@
 -- Files that a job stages.
-use Rattle.std.proofs.Common.{◌≡◌, ◌≤◌, ◌<◌, ◌+◌, ℕ, Bool, true, false, Option, Some, None, List, [], ◌∷◌, ◌++◌, Result, Ok, Err, refl, sym, ap, ◌∙◌, subst, append-nil, true≢false}
-use Rattle.std.specs.Prelude.{IfOk, IfErr, IsTrue, IsSomeAnd, Contains}
+use Rattle.std.proofs.Common.{◌≡◌, ◌+◌, ℕ, Bool, true, Option, Some, None, List, [], ◌∷◌, ◌++◌, Result, Ok, Err, refl, sym, ap, ◌∙◌, subst, append-nil}
+use Rattle.std.specs.Prelude.{IsTrue, IsSomeAnd}
 use Rattle.std.specs.List.{AllByRecursion}
 use Rattle.hv_base.specs.declared.ids.JobId.{JobId}
 use Rattle.hv_shelf.specs.declared.place.Place.{Place}
@@ -8,12 +8,9 @@ use Rattle.hv_shelf.specs.Disk.{Store}
 use Rattle.hv_rowfile.specs.declared.record.Rec.{Rec}
 use Rattle.hv_rowfile.specs.Layout.{IsFile, file_spelling}
 use Rattle.hv_dirs.specs.declared.names.DirName.{DirName}
-use Rattle.hv_history.specs.Lasting.{IsFront}
 use Rattle.hv_history.specs.State.{State, Job, numbered, state_of}
 use Rattle.hv_history.specs.Legal.{is_working}
-use Rattle.hv_law_made.specs.Entries.{IsAtWork}
-use Rattle.hv_law_made.specs.Standing.{IsEncodingOf}
-use Rattle.hv_law_work.specs.Work.{by_job, staged_at, IsJobFile}
+use Rattle.hv_law_work.specs.Work.{by_job, staged_at}
 use Rattle.hv_trail.specs.declared.trail.Reader.TheVariants as reader
 use Rattle.hv_trail.specs.declared.trail.Mark.TheVariants.{Wrote}
 use Rattle.hv_trail.specs.declared.trail.TrailItem.{TrailItem}
@@ -21,7 +18,7 @@ use Rattle.hv_trail.specs.declared.trail.TrailItem.TheVariants.{Marked}
 use Rattle.hv_trail.specs.Trail.{book_of, state_at, HasWritten}
 use Rattle.hv_trail.specs.Steps.{HouseSeen, Call, Put}
 use Rattle.hv_trail.proofs.LastingLaws.{book-append}
-use Rattle.hv_actor.specs.Acting.{IsLater, Went, Moment, AreRows, among}
+use Rattle.hv_actor.specs.Acting.{IsLater, Went, Moment, among}
 use Rattle.hv_job_acts.specs.hv_acts.specs.declared.told.ToldHouse.{ToldHouse}
 use Rattle.hv_job_acts.specs.hv_acts.specs.Told.{IsWholeOrClosed, seen_in, trail_in}
 use Rattle.hv_job_acts.specs.hv_acts.specs.Going.{IsOpenHouse}
@@ -35,13 +32,11 @@ use Rattle.hv_job_acts.specs.hv_job_calls.specs.Tests.{IsGoneOrHouse}
 use Rattle.hv_job_acts.specs.declared.fault.JobActFault.{JobActFault}
 use Rattle.hv_job_acts.specs.declared.fault.JobActFault.TheVariants as act
 use Rattle.hv_job_acts.specs.Answers.{WhyLeaves}
-use Rattle.hv_job_acts.specs.Doing.{call_to_stage, adds_staged, broke_staging, IsFileDue, StagesSo, IfCallOrUnfit}
-use Rattle.hv_job_acts.specs.Going.{AddsItems}
-use Rattle.hv_compact.specs.declared.fault.Stop.{Stop}
+use Rattle.hv_job_acts.specs.Doing.{call_to_stage, adds_staged, IsFileDue, StagesSo, IfCallOrUnfit}
 use Rattle.hv_compact.specs.Stopping.{act_stop}
-use Rattle.hv_compact.specs.Compacting.{IsMarkOf, IsWroteOf, Works}
-use Rattle.hv_compact.specs.Gathering.{IsToHave, AreDue, IsDue}
-use Rattle.hv_compact.specs.Writing.{IsStagedIn, IfSome}
+use Rattle.hv_compact.specs.Compacting.{IsMarkOf, Works}
+use Rattle.hv_compact.specs.Gathering.{AreDue, IsDue}
+use Rattle.hv_compact.specs.Writing.{IsStagedIn}
 use Rattle.hv_compact.proofs.Held.{HeldOf, reached-front, held-as, adds-of, done-open, done-answers, refused-stops, works-ok, works-err}
 use Rattle.hv_compact.proofs.Later.{told-fitting}
 

@@ -14,8 +14,8 @@ use Rattle.hv_history.specs.declared.entry.Entry.{Entry}
 use Rattle.hv_history.specs.declared.entry.Entry.TheVariants as entry
 use Rattle.hv_history.specs.declared.state.Table.{Table}
 use Rattle.hv_history.specs.declared.state.Written.{Written}
-use Rattle.hv_history.specs.State.{State, Job, numbered, changed, owned, written_to, dropped, forgot, tables_behind, commits, made_by, acted, after, state_of}
-use Rattle.hv_history.specs.Legal.{profile, is_working}
+use Rattle.hv_history.specs.State.{State, Job, numbered, changed, owned, written_to, dropped, forgot, tables_behind, commits, made_by, acted, after, nothing_yet, state_of}
+use Rattle.hv_history.specs.Legal.{profile, is_working, AllTruthful}
 use Rattle.hv_history.specs.Jobs.{is_job_of, is_live_one, mark_by}
 use Rattle.hv_history.specs.JobsFit.{is_live_job}
 use Rattle.hv_history.proofs.LastingLaws.{kept-more, kept-changed}
@@ -61,7 +61,7 @@ use Rattle.hv_compact.proofs.Later.{told-fitting, found-later, some-so}
 use Rattle.hv_compact.proofs.Wants.{state-is}
 use Rattle.hv_compact.proofs.Lasts.{IsUncovered, stands-while}
 use Rattle.hv_compact.proofs.Naming.{IsChosenOf, all-listed, taken-in-part}
-use Rattle.hv_compact.proofs.Taken.{IsWorkOf, taken-stands}
+use Rattle.hv_compact.proofs.Taken.{recs_made, IsWorkOf, taken-stands}
 
 -- ---- a table that was dropped is so later
 
@@ -124,7 +124,7 @@ number-at first (x ∷ ts) order (suc n) t is =
     let own : t.info.table.0 ≡ first + 1 + n = number-at (first + 1) ts order.1 n t is in
     omega (arith, own)
 
-number-of : (ts : List Table) → NumberedFrom 1 ts → (k : ℕ) (t : Table) → numbered ts k ≡ Some t → t.info.table.0 ≡ k
+pub number-of : (ts : List Table) → NumberedFrom 1 ts → (k : ℕ) (t : Table) → numbered ts k ≡ Some t → t.info.table.0 ≡ k
 number-of ts order zero t is = cc
 number-of ts order (suc n) t is = let own : t.info.table.0 ≡ 1 + n = number-at 1 ts order n t is in omega (arith, own)
 
@@ -133,11 +133,7 @@ some-none o none some = true≢false (sym some ∙ ap (λ (p : Option Table). is
 
 -- ---- the records of a file, as the book makes them
 
-pub recs_made : Option (Bool × List Rec) → List Rec
-recs_made None = []
-recs_made (Some (deletes, recs)) = recs
-
-pub recs_then : List TrailItem → DirFile → List Rec
+abbrev pub recs_then : List TrailItem → DirFile → List Rec
 recs_then trail file = recs_made (made_recs (state_at trail) file.place)
 
 -- ---- each of them stands
@@ -146,6 +142,7 @@ recs_then trail file = recs_made (made_recs (state_at trail) file.place)
 pub record IsListing (trail : List TrailItem) (number : ℕ) (files : Tree) (list : WriteIds) (inserts deletes : List DirFile) : Type 0 where
   pub book : HasFittingBook trail
   pub short : length (book_of trail) < write_end
+  pub truth : AllTruthful nothing_yet (book_of trail)
   pub standing : Standing (state_at trail) files
   pub job : Job
   pub at : numbered (state_at trail).jobs number ≡ Some job
@@ -279,6 +276,7 @@ listing-of told house kept running is job listing does =
       record {
         book = book;
         short = (let few = book.few in omega (arith, few));
+        truth = subst (λ (events : List Entry). AllTruthful nothing_yet events) (sym (book-is house.house)) store.2.faithful.legal.truthful;
         standing = subst (λ (events : List Entry). Standing (state_of events) store.0.tree) (sym (book-is house.house)) store.2.faithful.stands;
         job = at.0;
         at = at.1;

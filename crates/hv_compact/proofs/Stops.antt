@@ -1,29 +1,26 @@
 -- What a refused act leaves: where it stops a run, and where the job may be given up for it.
-use Rattle.std.proofs.Common.{◌≡◌, ◌⊎◌, inl, inr, ℕ, ◌≤◌, Bool, true, false, Option, Some, List, [], ◌∷◌, ◌++◌, Result, Ok, Err, refl, sym, ap, ◌∙◌, subst, append-nil}
+use Rattle.std.proofs.Common.{◌≡◌, ◌⊎◌, inl, inr, ℕ, Bool, true, false, Option, Some, List, [], ◌∷◌, ◌++◌, refl, sym, ap, ◌∙◌, subst, append-nil}
 use Rattle.std.specs.Prelude.{◌||◌, Contains}
 use Rattle.hv_base.specs.declared.ids.JobId.{JobId}
 use Rattle.hv_shelf.specs.Disk.{Store}
-use Rattle.hv_history.specs.declared.entry.Entry.TheVariants as entry
 use Rattle.hv_history.specs.declared.entry.JobCause.{JobCause}
 use Rattle.hv_history.specs.declared.entry.JobCause.TheVariants as cause
 use Rattle.hv_trail.specs.declared.trail.Reader.TheVariants as reader
 use Rattle.hv_trail.specs.declared.trail.Mark.TheVariants.{Broke}
 use Rattle.hv_trail.specs.declared.trail.TrailItem.{TrailItem}
 use Rattle.hv_trail.specs.declared.trail.TrailItem.TheVariants.{Marked}
-use Rattle.hv_trail.specs.Steps.{HouseSeen, Call, Note, Begin, Commit, Put, Remove, Publish, Read, Ask, Outcome, Closed, Refused, Starved, Failed, MayEnd, gains, shuts, Step}
-use Rattle.hv_actor.specs.Acting.{IsLater, among}
+use Rattle.hv_trail.specs.Steps.{Call, Note, Begin, Commit, Put, Remove, Publish, Read, Ask, Outcome, Closed, Refused, Starved, Failed, MayEnd, gains, shuts, Step}
+use Rattle.hv_actor.specs.Acting.{among}
 use Rattle.hv_job_acts.specs.hv_acts.specs.declared.told.ToldHouse.{ToldHouse}
 use Rattle.hv_job_acts.specs.hv_acts.specs.Told.{IsWholeOrClosed, seen_in, trail_in}
-use Rattle.hv_job_acts.specs.hv_acts.specs.Going.{IsOpenHouse, IsShutBetween}
+use Rattle.hv_job_acts.specs.hv_acts.specs.Going.{IsOpenHouse}
 use Rattle.hv_job_acts.specs.hv_acts.specs.hv_telling.specs.hv_house.specs.declared.fault.HouseFault.TheVariants as house_fault
-use Rattle.hv_job_acts.specs.hv_acts.specs.hv_telling.specs.hv_house.specs.House.{IsSmall}
 use Rattle.hv_job_acts.specs.hv_acts.specs.hv_telling.specs.hv_house.proofs.Readings.{contains-last}
 use Rattle.hv_job_acts.specs.hv_job_calls.specs.declared.fault.JobFault.TheVariants as fault
 use Rattle.hv_job_acts.specs.declared.fault.JobActFault.{JobActFault}
 use Rattle.hv_job_acts.specs.declared.fault.JobActFault.TheVariants as act
 use Rattle.hv_job_acts.specs.Answers.{act_call, act_outcome, WhyLeaves}
-use Rattle.hv_job_acts.specs.Going.{IsCutNow, IsShutFor}
-use Rattle.hv_job_acts.specs.Marked.{HasJobMark}
+use Rattle.hv_job_acts.specs.Going.{IsShutFor}
 use Rattle.hv_compact.specs.Stopping.{cause_of, act_stop, act_run, IsOfJob, IsStarvedNow, RunsOut, MayGiveUp, StopsSo}
 use Rattle.hv_compact.specs.declared.compacting.Causes.{Causes}
 use Rattle.hv_compact.specs.Ending.{AreSame, CanGiveUp}

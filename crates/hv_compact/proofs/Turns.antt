@@ -1,9 +1,8 @@
 -- Turn by turn an initiator asks for what is due.
-use Rattle.std.proofs.Common.{◌≡◌, ◌≤◌, ◌<◌, ◌+◌, ℕ, suc, Bool, Option, Some, None, List, [], ◌∷◌, ◌++◌, length, take, get_or, Result, Ok, Err, refl, sym, ap, ◌∙◌, subst, append-nil, append_assoc, arith}
-use Rattle.std.specs.Prelude.{IfOk, IfErr, IsSome}
+use Rattle.std.proofs.Common.{◌≡◌, ◌≤◌, ◌+◌, ℕ, Option, Some, None, List, [], ◌∷◌, ◌++◌, length, take, Result, Ok, Err, refl, sym, ap, ◌∙◌, subst, append-nil, append_assoc, arith}
+use Rattle.std.specs.Prelude.{IfOk, IfErr}
 use Rattle.std.proofs.lemmas.List.{length-append}
 use Rattle.hv_base.specs.declared.ids.JobId.{JobId}
-use Rattle.hv_base.specs.declared.ids.TableId.{TableId}
 use Rattle.hv_shelf.specs.Disk.{Store}
 use Rattle.hv_history.specs.declared.entry.Entry.{Entry}
 use Rattle.hv_history.specs.declared.entry.JobKind.{JobKind}
@@ -14,21 +13,19 @@ use Rattle.hv_history.specs.Legal.{profile}
 use Rattle.hv_trail.specs.declared.trail.TrailItem.{TrailItem}
 use Rattle.hv_trail.specs.declared.trail.TrailItem.TheVariants.{Noted}
 use Rattle.hv_trail.specs.Trail.{book_of}
-use Rattle.hv_trail.specs.Steps.{HouseSeen, Call, Note, Ask, Done, Step}
+use Rattle.hv_trail.specs.Steps.{HouseSeen, Call, Note, Ask}
 use Rattle.hv_actor.specs.Acting.{IsLater, Went, Moment, AreRows, among}
 use Rattle.hv_job_acts.specs.hv_acts.specs.declared.told.ToldHouse.{ToldHouse}
 use Rattle.hv_job_acts.specs.hv_acts.specs.Told.{seen_in, trail_in, book_in}
 use Rattle.hv_job_acts.specs.hv_acts.specs.hv_telling.specs.hv_house.specs.Calls.{LacksRoom}
 use Rattle.hv_job_acts.specs.hv_acts.specs.Going.{IsOpenHouse}
-use Rattle.hv_job_acts.specs.hv_acts.specs.hv_telling.specs.hv_house.specs.declared.fault.HouseFault.{HouseFault}
 use Rattle.hv_job_acts.specs.hv_acts.specs.hv_telling.specs.hv_house.specs.declared.fault.HouseFault.TheVariants as house_fault
 use Rattle.hv_job_acts.specs.hv_job_calls.specs.declared.fault.JobFault.TheVariants as fault
-use Rattle.hv_job_acts.specs.hv_job_calls.specs.Refusals.{asking}
 use Rattle.hv_job_acts.specs.declared.asking.PartAt.{PartAt}
 use Rattle.hv_job_acts.specs.declared.noting.AskedJob.{AskedJob}
 use Rattle.hv_job_acts.specs.declared.fault.JobActFault.{JobActFault}
 use Rattle.hv_job_acts.specs.declared.fault.JobActFault.TheVariants as act
-use Rattle.hv_job_acts.specs.Answers.{act_call, act_outcome, answer_outcome}
+use Rattle.hv_job_acts.specs.Answers.{act_call}
 use Rattle.hv_job_acts.specs.Asking.{asked_entry, asked_kind, asked_due, call_to_ask, adds_found, FailsSo, DuesSo}
 use Rattle.hv_job_acts.specs.Questions.{AnswersSo, IsLack}
 use Rattle.hv_job_acts.specs.Work.{parts_in}

@@ -8,8 +8,9 @@ use Rattle.hv_dirs.specs.declared.names.DirName.{DirName}
 use Rattle.hv_dirs.specs.Names.{write_end}
 use Rattle.hv_history.specs.declared.entry.Entry.{Entry}
 use Rattle.hv_history.specs.declared.state.Table.{Table}
-use Rattle.hv_history.specs.State.{State, Job, after, nothing_yet}
+use Rattle.hv_history.specs.State.{State, Job, numbered, after, nothing_yet}
 use Rattle.hv_history.specs.Legal.{profile, AllFit}
+use Rattle.hv_history.specs.Jobs.{pieces_for}
 use Rattle.hv_history.specs.Lasting.{IsFront}
 use Rattle.hv_stands.proofs.Behind.{entries-are}
 use Rattle.hv_law_made.specs.Entries.{IsSoundBook, IsAtWork}
@@ -86,6 +87,13 @@ module _ (before now : List TrailItem) (front : IsFront before now) (book : HasF
       → (job : Job) (work : IsAtWork (state_at now) n job) → P (state_at now) job work.table
   wanted-so P each =
       subst (λ (s : State). (job : Job) (work : IsAtWork s n job) → P s job work.table) (sym state-is) each
+
+  -- it was there as it is, with the same range
+  pub was-so : (job : Job) → IsAtWork (state_at now) n job
+      → (numbered (state_at before).jobs n ≡ Some job) × (pieces_for (state_at now) job ≡ pieces_for (state_at before) job)
+  was-so =
+      wanted-so (λ s j table. (numbered (state_at before).jobs n ≡ Some j) × (pieces_for s j ≡ pieces_for (state_at before) j))
+      (λ job work. let it = still job work in (it.work.is, it.pieces))
 
   to-have : (made : DirName) (deletes : Bool) (bucket : ℕ) (recs : List Rec)
       → ((job : Job) (work : IsAtWork (state_at before) n job) → IsToHave made deletes bucket recs (state_at before) job work.table)

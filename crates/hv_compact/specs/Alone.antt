@@ -1,7 +1,6 @@
 -- What a pass of an initiator and a compaction add where nobody else adds anything.
-use Rattle.std.specs.Prelude.{◌≡◌, ◌×◌, ℕ, Option, List, [], ◌∷◌, ◌++◌}
+use Rattle.std.specs.Prelude.{◌≡◌, ℕ, Option, List, [], ◌∷◌, ◌++◌}
 use Rattle.hv_shelf.specs.Disk.{Store}
-use Rattle.hv_base.specs.declared.ids.JobId.{JobId}
 use Rattle.hv_history.specs.declared.entry.Entry.{Entry}
 use Rattle.hv_history.specs.declared.entry.Entry.TheVariants as entry
 use Rattle.hv_history.specs.State.{state_of}

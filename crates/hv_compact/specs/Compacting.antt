@@ -1,6 +1,6 @@
 -- What a compaction adds by its own acts, and how it ends.
 -- Source: Hive Transactions, compactor (worker).
-use Rattle.std.specs.Prelude.{◌≡◌, ◌×◌, ℕ, Bool, true, false, Option, Some, None, List, [], ◌∷◌, ◌++◌, Result, Ok, Err, IfOk, IfErr}
+use Rattle.std.specs.Prelude.{◌≡◌, ◌×◌, Option, Some, None, List, [], ◌∷◌, ◌++◌, Result, IfOk, IfErr}
 use Rattle.std.specs.List.{AllByRecursion}
 use Rattle.hv_base.specs.declared.ids.JobId.{JobId}
 use Rattle.hv_base.specs.declared.ids.WriteId.{WriteId}
@@ -8,7 +8,6 @@ use Rattle.hv_base.specs.declared.ids.TxnId.{TxnId}
 use Rattle.hv_shelf.specs.Disk.{Store}
 use Rattle.hv_history.specs.declared.entry.Entry.{Entry}
 use Rattle.hv_history.specs.declared.entry.Entry.TheVariants as entry
-use Rattle.hv_history.specs.declared.entry.JobCause.{JobCause}
 use Rattle.hv_history.specs.State.{state_of}
 use Rattle.hv_history.specs.JobsFit.{OfJob, EmptyFits, FailedFits}
 use Rattle.hv_history.specs.Lasting.{IsFront}
@@ -27,7 +26,6 @@ use Rattle.hv_job_acts.specs.hv_job_calls.specs.Refusals.{to_pick, picking, publ
 use Rattle.hv_job_acts.specs.Going.{AddsItems, WasAt}
 use Rattle.hv_job_acts.specs.Doing.{IsStagedDue}
 use Rattle.hv_compact.specs.declared.fault.RunFault.{RunFault}
-use Rattle.hv_compact.specs.declared.fault.RunFault.TheVariants as run
 use Rattle.hv_compact.specs.declared.fault.Stop.{Stop}
 use Rattle.hv_compact.specs.declared.compacting.Done.{Done}
 use Rattle.hv_compact.specs.declared.compacting.Done.TheVariants as done

@@ -1,5 +1,5 @@
 -- How a job that was taken up ends.
-use Rattle.std.specs.Prelude.{IsSome, ◌≡◌, ◌×◌, ◌⊎◌, ℕ, Option, Some, None, Result, Ok, Err, List, [], ◌∷◌, ◌++◌}
+use Rattle.std.specs.Prelude.{IsSome, ◌≡◌, ◌×◌, ◌⊎◌, Option, Some, None, Result, Ok, Err, List}
 use Rattle.std.specs.List.{AllByRecursion}
 use Rattle.hv_base.specs.declared.ids.JobId.{JobId}
 use Rattle.hv_base.specs.declared.ids.WriteId.{WriteId}
@@ -13,11 +13,9 @@ use Rattle.hv_history.specs.Jobs.{pieces_for}
 use Rattle.hv_history.specs.JobsFit.{OfJob, EmptyFits, FailedFits}
 use Rattle.hv_history.specs.Lasting.{IsFront}
 use Rattle.hv_trail.specs.declared.trail.TrailItem.{TrailItem}
-use Rattle.hv_trail.specs.declared.trail.TrailItem.TheVariants.{Noted}
-use Rattle.hv_trail.specs.Trail.{state_at, book_of}
+use Rattle.hv_trail.specs.Trail.{state_at}
 use Rattle.hv_actor.specs.Acting.{Setting, Moment}
 use Rattle.hv_job_acts.specs.hv_acts.specs.declared.told.ToldHouse.{ToldHouse}
-use Rattle.hv_job_acts.specs.hv_acts.specs.Told.{trail_in}
 use Rattle.hv_job_acts.specs.hv_acts.specs.Going.{IsOpenHouse}
 use Rattle.hv_job_acts.specs.hv_job_calls.specs.Refusals.{publishing_of}
 use Rattle.hv_job_acts.specs.declared.noting.PickedJob.{PickedJob}

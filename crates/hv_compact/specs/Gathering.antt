@@ -1,11 +1,8 @@
 -- Which of the listed files of a job are taken in a bucket, and what is made of them.
 -- Source: Hive Transactions, compactor.
-use Rattle.std.specs.Prelude.{if◌then◌else◌, ◌≡◌, ◌×◌, ◌<◌, ℕ, ◌==◌, ◌&&◌, nat_lt, Bool, true, false, Option, Some, None, List, [], ◌∷◌, ◌+◌, filter, map}
-use Rattle.std.specs.List.{AllByRecursion}
+use Rattle.std.specs.Prelude.{if◌then◌else◌, ◌≡◌, ◌×◌, ℕ, ◌==◌, ◌&&◌, nat_lt, Bool, true, false, Some, None, List, [], ◌∷◌, ◌+◌, filter, map}
 use Rattle.hv_base.specs.declared.ids.JobId.{JobId}
 use Rattle.hv_shelf.specs.declared.place.Place.{Place}
-use Rattle.hv_wids.specs.WriteIds.{WriteIds}
-use Rattle.hv_rowfile.specs.Layout.{IsFile, RisesFrom, file_spelling}
 use Rattle.hv_dirs.specs.declared.names.DirName.{DirName}
 use Rattle.hv_dirs.specs.declared.names.DirName.TheVariants as name
 use Rattle.hv_history.specs.declared.state.Table.{Table}

@@ -1,5 +1,5 @@
 -- What a job has staged, bucket by bucket.
-use Rattle.std.specs.Prelude.{◌≡◌, ◌×◌, ◌<◌, ℕ, Bool, true, false, List, [], ◌∷◌, map}
+use Rattle.std.specs.Prelude.{◌≡◌, ◌<◌, ℕ, Bool, true, false, List, [], ◌∷◌, map}
 use Rattle.hv_base.specs.declared.ids.JobId.{JobId}
 use Rattle.hv_rowfile.specs.declared.record.Rec.{Rec}
 use Rattle.hv_choosing.specs.declared.listing.DirFile.{DirFile}

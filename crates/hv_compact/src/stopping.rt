@@ -6,8 +6,8 @@ ghost use Rattle.hv_compact.specs.Stopping.{cause_of, house_stop, call_stop, act
 use crate::fault::{RunFault, Stop};
 use hv_history::JobCause;
 use hv_job_acts::JobActFault;
-use hv_job_acts::hv_job_calls::JobFault;
 use hv_job_acts::hv_acts::hv_telling::hv_house::HouseFault;
+use hv_job_acts::hv_job_calls::JobFault;
 
 /// Lets go of a value, in a function without other paths.
 pub(crate) fn let_go<T: Drop>(_value: T) {}

@@ -14,12 +14,12 @@ use Rattle.hv_history.specs.Legal.{Fits, IsLegal, load, profile}
 use Rattle.hv_trail.specs.Trail.{book_of}
 use Rattle.hv_law_next.specs.Next.{lacks_room}
 use Rattle.hv_law_next.proofs.Going.{legal-parts}
-use Rattle.hv_program.specs.hv_clean.specs.hv_compact.specs.hv_job_acts.specs.declared.asking.PartAt.{PartAt}
-use Rattle.hv_program.specs.hv_clean.specs.hv_compact.specs.hv_job_acts.specs.declared.asking.LostId.{LostId}
-use Rattle.hv_program.specs.hv_clean.specs.hv_compact.specs.hv_job_acts.specs.hv_job_calls.specs.Refusals.{asking, picking, to_pick, published_by}
-use Rattle.hv_program.specs.hv_clean.specs.hv_compact.specs.hv_job_acts.specs.Work.{parts_in, lost_in}
-use Rattle.hv_program.specs.hv_clean.specs.hv_compact.specs.Initiating.{asks_kind, asks_for}
-use Rattle.hv_program.specs.hv_clean.specs.hv_compact.specs.Alone.{initiated_from}
+use Rattle.hv_program.specs.hv_compact.specs.hv_job_acts.specs.declared.asking.PartAt.{PartAt}
+use Rattle.hv_program.specs.hv_compact.specs.hv_job_acts.specs.declared.asking.LostId.{LostId}
+use Rattle.hv_program.specs.hv_compact.specs.hv_job_acts.specs.hv_job_calls.specs.Refusals.{asking, picking, to_pick, published_by}
+use Rattle.hv_program.specs.hv_compact.specs.hv_job_acts.specs.Work.{parts_in, lost_in}
+use Rattle.hv_program.specs.hv_compact.specs.Initiating.{asks_kind, asks_for}
+use Rattle.hv_program.specs.hv_compact.specs.Alone.{initiated_from}
 use Rattle.hv_program.specs.hv_clean.specs.Alone.{free_in, forgot_entry}
 use Rattle.hv_program.specs.Background.{LacksRoomFor, IsCleaning, Initiated, IsEndOfJob, TakesUp, WorksAt, Compacts, IsWholePass}
 use Rattle.hv_law_serial.specs.Passes.{asked_if, asked_turn, asked_turns, is_empty_one, ended_if, ended_of, worked_if, worked, compacted, noted_if, noted_each, cleaned}

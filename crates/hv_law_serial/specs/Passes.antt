@@ -7,9 +7,9 @@ use Rattle.hv_history.specs.declared.entry.JobKind.{JobKind}
 use Rattle.hv_history.specs.State.{State, Job, numbered, state_of}
 use Rattle.hv_history.specs.Jobs.{due, pieces_for, is_empty_of}
 use Rattle.hv_law_next.specs.Next.{lacks_room}
-use Rattle.hv_program.specs.hv_clean.specs.hv_compact.specs.hv_job_acts.specs.declared.asking.PartAt.{PartAt}
-use Rattle.hv_program.specs.hv_clean.specs.hv_compact.specs.hv_job_acts.specs.hv_job_calls.specs.Refusals.{asking, picking, to_pick, publishing_of}
-use Rattle.hv_program.specs.hv_clean.specs.hv_compact.specs.hv_job_acts.specs.Work.{parts_in}
+use Rattle.hv_program.specs.hv_compact.specs.hv_job_acts.specs.declared.asking.PartAt.{PartAt}
+use Rattle.hv_program.specs.hv_compact.specs.hv_job_acts.specs.hv_job_calls.specs.Refusals.{asking, picking, to_pick, publishing_of}
+use Rattle.hv_program.specs.hv_compact.specs.hv_job_acts.specs.Work.{parts_in}
 use Rattle.hv_program.specs.Background.{cleaning_of}
 
 -- ---- a pass of an initiator: what is due in each partition at its turn is asked for

@@ -10,15 +10,16 @@ use Rattle.hv_session.specs.hv_beginning.specs.hv_steps.specs.hv_table_reader.sp
 use Rattle.hv_session.specs.hv_beginning.specs.hv_steps.specs.hv_table_reader.specs.hv_acts.specs.hv_telling.specs.hv_house.specs.declared.fault.HouseFault.{HouseFault}
 use Rattle.hv_session.specs.hv_beginning.specs.hv_steps.specs.hv_table_reader.specs.hv_acts.specs.hv_telling.specs.hv_house.specs.declared.fault.HouseFault.TheVariants as fault
 use Rattle.hv_session.specs.hv_beginning.specs.hv_steps.specs.hv_table_reader.specs.hv_acts.specs.hv_telling.specs.hv_house.specs.House.{entries_of}
-use Rattle.hv_clean.specs.hv_compact.specs.declared.fault.RunFault.{RunFault}
-use Rattle.hv_clean.specs.hv_compact.specs.declared.fault.RunFault.TheVariants as run
-use Rattle.hv_clean.specs.hv_compact.specs.Stopping.{IsAsking, IsPicking, IsOfJob, RunsOut}
-use Rattle.hv_clean.specs.hv_compact.specs.Initiating.{InitiatesLess}
-use Rattle.hv_clean.specs.hv_compact.specs.Compacting.{IsPickedThen, StopsIn, StopsWith}
-use Rattle.hv_clean.specs.Passing.{SweepsLess, IsCleaning as IsSweeping, RunsOut as CleansOut}
+use Rattle.hv_compact.specs.declared.fault.RunFault.{RunFault}
+use Rattle.hv_compact.specs.declared.fault.RunFault.TheVariants as run
+use Rattle.hv_compact.specs.Stopping.{IsAsking, IsPicking, IsOfJob, RunsOut}
+use Rattle.hv_compact.specs.Initiating.{InitiatesLess}
+use Rattle.hv_compact.specs.Compacting.{IsPickedThen, StopsIn, StopsWith}
+use Rattle.hv_clean.specs.declared.fault.PassFault.{PassFault}
+use Rattle.hv_clean.specs.Passing.{SweepsLess, IsCleaning as IsSweeping}
 use Rattle.hv_program.specs.Background.{IsCompacting, IsCleaning}
-use Rattle.hv_program.specs.Beside.{fault_of, AddsBeside, StopsBeside}
-use Rattle.hv_program.proofs.Passed.{asked-some, swept-some}
+use Rattle.hv_program.specs.Beside.{fault_of, run_of, AddsBeside, StopsBeside}
+use Rattle.hv_program.proofs.Passed.{asked-some, swept-some, cleans-cut, cleans-lacking}
 use Rattle.hv_program.proofs.Worked.{one-some}
 use Rattle.hv_program.proofs.Leaving.{asking-calls, picking-calls, job-calls, sweeping-calls, cut-of, stops-cut, stops-open, stops-lacking, stops-run}
 
@@ -63,9 +64,10 @@ module _ {D : Type 0} (told : D → Option Store) (faults : D → ℕ) (own own'
       (λ is. one-cut s.items s.picked adds (subst (StopsIn Lonely now s.items) is s.stops))
       (λ is. one-lacking s.items s.picked adds (subst (StopsIn Lonely now s.items) is s.stops))
 
-  pub swept-stopped : SweepsLess Lonely A B why → IfErr q (λ w. StopsBeside told IsCleaning w before.house now.house)
-  swept-stopped less =
-      let adds : AddsBeside IsCleaning (entries_of before.house) (entries_of now.house) = swept-some told faults own own' before now why less in
+  pub swept-stopped : (ended : PassFault) → why ≡ run_of ended → SweepsLess Lonely A B ended → IfErr q (λ w. StopsBeside told IsCleaning w before.house now.house)
+  swept-stopped ended is less =
+      let adds : AddsBeside IsCleaning (entries_of before.house) (entries_of now.house) = swept-some told faults own own' before now ended less in
       stops-run told faults IsCleaning before now adds later kept begun why q same
-      (λ is. stops-cut told faults IsCleaning before now adds later kept begun IsSweeping sweeping-calls (cut-of told faults IsSweeping now (subst (CleansOut Lonely now) is less.stops)))
-      (λ is. stops-open told faults IsCleaning before now adds later kept begun (subst (CleansOut Lonely now) is less.stops))
+      (λ store. stops-cut told faults IsCleaning before now adds later kept begun IsSweeping sweeping-calls
+      (cut-of told faults IsSweeping now (cleans-cut told faults own own' before now ended less why is store)))
+      (λ memory. stops-open told faults IsCleaning before now adds later kept begun (cleans-lacking told faults own own' before now ended less why is memory))

@@ -35,10 +35,10 @@ use Rattle.hv_session.specs.hv_beginning.specs.hv_steps.specs.hv_table_reader.sp
 use Rattle.hv_session.specs.hv_beginning.specs.hv_steps.specs.hv_table_reader.specs.hv_acts.specs.hv_telling.specs.Telling.{IsWhole, IsToldHouse}
 use Rattle.hv_session.specs.hv_beginning.specs.hv_steps.specs.hv_table_reader.specs.hv_acts.specs.hv_telling.proofs.Told.{told-stays}
 use Rattle.hv_session.specs.hv_beginning.specs.hv_steps.specs.hv_table_reader.specs.hv_acts.specs.hv_telling.proofs.Opens.{whole-opens}
-use Rattle.hv_clean.specs.hv_compact.specs.hv_job_acts.specs.Going.{IsCutNow, IsShutFor as IsShutBy}
-use Rattle.hv_clean.specs.hv_compact.specs.declared.fault.RunFault.{RunFault}
-use Rattle.hv_clean.specs.hv_compact.specs.declared.fault.RunFault.TheVariants as run
-use Rattle.hv_clean.specs.hv_compact.specs.Stopping.{IsAsking, IsPicking, IsOfJob, IsStarvedNow}
+use Rattle.hv_compact.specs.hv_job_acts.specs.Going.{IsCutNow, IsShutFor as IsShutBy}
+use Rattle.hv_compact.specs.declared.fault.RunFault.{RunFault}
+use Rattle.hv_compact.specs.declared.fault.RunFault.TheVariants as run
+use Rattle.hv_compact.specs.Stopping.{IsAsking, IsPicking, IsOfJob, IsStarvedNow}
 use Rattle.hv_clean.specs.Passing.{IsCleaning as IsSweeping}
 use Rattle.hv_program.specs.Background.{IsCompacting, IsCleaning}
 use Rattle.hv_program.specs.Beside.{fault_of, AddsBeside, StopsBeside}

@@ -29,22 +29,24 @@ use Rattle.hv_session.specs.hv_beginning.specs.hv_steps.specs.hv_table_reader.sp
 use Rattle.hv_session.specs.hv_beginning.specs.hv_steps.specs.hv_table_reader.specs.hv_acts.specs.hv_telling.specs.hv_house.specs.House.{entries_of}
 use Rattle.hv_session.specs.hv_beginning.specs.hv_steps.specs.hv_table_reader.specs.hv_acts.specs.hv_telling.specs.Telling.{IsToldHouse, StillOpens}
 use Rattle.hv_session.specs.hv_beginning.specs.hv_steps.specs.hv_table_reader.specs.hv_acts.specs.hv_telling.proofs.Told.{told-stays}
-use Rattle.hv_clean.specs.hv_compact.specs.hv_job_acts.specs.declared.asking.PartAt.{PartAt}
-use Rattle.hv_clean.specs.hv_compact.specs.hv_job_acts.specs.Going.{AddsItems, IsShutFor as IsShutBy}
-use Rattle.hv_clean.specs.hv_compact.specs.hv_job_acts.specs.Work.{parts_in}
-use Rattle.hv_clean.specs.hv_compact.specs.declared.fault.RunFault.{RunFault}
-use Rattle.hv_clean.specs.hv_compact.specs.declared.fault.RunFault.TheVariants as run
-use Rattle.hv_clean.specs.hv_compact.specs.Stopping.{IsAsking, IsFullFor, RunsOut}
-use Rattle.hv_clean.specs.hv_compact.specs.Initiating.{asks_kind, asks_for, AreTurns, Initiates, InitiatesLess}
-use Rattle.hv_clean.specs.hv_compact.specs.Alone.{initiated_from}
-use Rattle.hv_clean.specs.hv_compact.proofs.Alones.{alone-added, turned-alone}
+use Rattle.hv_compact.specs.hv_job_acts.specs.declared.asking.PartAt.{PartAt}
+use Rattle.hv_compact.specs.hv_job_acts.specs.Going.{AddsItems, IsShutFor as IsShutBy}
+use Rattle.hv_compact.specs.hv_job_acts.specs.Work.{parts_in}
+use Rattle.hv_compact.specs.declared.fault.RunFault.{RunFault}
+use Rattle.hv_compact.specs.declared.fault.RunFault.TheVariants as run
+use Rattle.hv_compact.specs.Stopping.{IsAsking, IsFullFor, RunsOut}
+use Rattle.hv_compact.specs.Initiating.{asks_kind, asks_for, AreTurns, Initiates, InitiatesLess}
+use Rattle.hv_compact.specs.Alone.{initiated_from}
+use Rattle.hv_compact.proofs.Alones.{alone-added, turned-alone}
 use Rattle.hv_clean.specs.declared.fault.Swept.{Swept}
+use Rattle.hv_clean.specs.declared.fault.PassFault.{PassFault}
+use Rattle.hv_clean.specs.declared.fault.PassFault.TheVariants as pass
 use Rattle.hv_clean.specs.Passing.{IsPassed, SweepsLess, Passes, IsCleaning as IsSweeping, RunsOut as CleansOut}
 use Rattle.hv_clean.specs.Alone.{SweepsSome}
 use Rattle.hv_clean.proofs.Moved.{moves-pass}
 use Rattle.hv_clean.proofs.AloneSome.{passes-some}
 use Rattle.hv_program.specs.Background.{LacksRoomFor, IsCompacting, IsCleaning, Initiated, Cleans}
-use Rattle.hv_program.specs.Beside.{fault_of, AddsBeside}
+use Rattle.hv_program.specs.Beside.{fault_of, run_of, AddsBeside}
 use Rattle.hv_program.specs.Stops.{IsShutFor}
 use Rattle.hv_program.proofs.OwnEntries.{all-append}
 
@@ -252,12 +254,36 @@ module _ {D : Type 0} (told : D → Option Store) (faults : D → ℕ) (own own'
       (subst (SweepsSome (book_in before)) (book-is now.house)
       (passes-some told faults Nothing nothing_rows Untouched nothing-is-added (known own before) (known own' now) swept pass))
 
-  pub swept-some : (why : RunFault) → SweepsLess Lonely (known own before) (known own' now) why
+  pub swept-some : (why : PassFault) → SweepsLess Lonely (known own before) (known own' now) why
       → AddsBeside IsCleaning (entries_of before.house) (entries_of now.house)
   swept-some why s = record { added = book_of s.items; book = swept-gained s.items s.adds; of_it = passed-kind s.items s.each }
 
-  pub cleans-open : (why : RunFault) → SweepsLess Lonely (known own before) (known own' now) why → (entries : ℕ) → why ≡ run.Full entries → IsOpenHouse now
-  cleans-open why s entries is = subst (CleansOut Lonely now) is s.stops
+  pub cleans-open : (why : PassFault) → SweepsLess Lonely (known own before) (known own' now) why → (r : RunFault) → r ≡ run_of why → (entries : ℕ) → r ≡ run.Full entries
+      → IsOpenHouse now
+  cleans-open why s r same entries is = by why s.stops (sym same ∙ is)
+    where
+      by : (w : PassFault) → CleansOut Lonely now w → run_of w ≡ run.Full entries → IsOpenHouse now
+      by pass.Store stops e = let no_ : run.Store ≡ run.Full entries = e in cc
+      by (pass.Full count) stops e = stops
+      by pass.NoMemory stops e = let no_ : run.NoMemory ≡ run.Full entries = e in cc
 
-  pub cleans-shut : (why : RunFault) → SweepsLess Lonely (known own before) (known own' now) why → why ≡ run.Store → IsShutHouse now
-  cleans-shut why s is = shut-house told faults IsSweeping now (subst (CleansOut Lonely now) is s.stops)
+  pub cleans-cut : (why : PassFault) → SweepsLess Lonely (known own before) (known own' now) why → (r : RunFault) → r ≡ run_of why → r ≡ run.Store
+      → IsShutBy Lonely IsSweeping now
+  cleans-cut why s r same is = by why s.stops (sym same ∙ is)
+    where
+      by : (w : PassFault) → CleansOut Lonely now w → run_of w ≡ run.Store → IsShutBy Lonely IsSweeping now
+      by pass.Store stops e = stops
+      by (pass.Full count) stops e = let no_ : run.Full count ≡ run.Store = e in cc
+      by pass.NoMemory stops e = let no_ : run.NoMemory ≡ run.Store = e in cc
+
+  pub cleans-lacking : (why : PassFault) → SweepsLess Lonely (known own before) (known own' now) why → (r : RunFault) → r ≡ run_of why → r ≡ run.NoMemory
+      → IsOpenHouse now
+  cleans-lacking why s r same is = by why s.stops (sym same ∙ is)
+    where
+      by : (w : PassFault) → CleansOut Lonely now w → run_of w ≡ run.NoMemory → IsOpenHouse now
+      by pass.Store stops e = let no_ : run.Store ≡ run.NoMemory = e in cc
+      by (pass.Full count) stops e = let no_ : run.Full count ≡ run.NoMemory = e in cc
+      by pass.NoMemory stops e = stops
+
+  pub cleans-shut : (why : PassFault) → SweepsLess Lonely (known own before) (known own' now) why → (r : RunFault) → r ≡ run_of why → r ≡ run.Store → IsShutHouse now
+  cleans-shut why s r same is = shut-house told faults IsSweeping now (cleans-cut why s r same is)

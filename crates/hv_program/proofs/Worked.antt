@@ -23,17 +23,17 @@ use Rattle.hv_session.specs.hv_beginning.specs.hv_steps.specs.hv_table_reader.sp
 use Rattle.hv_session.specs.hv_beginning.specs.hv_steps.specs.hv_table_reader.specs.hv_acts.proofs.Steps.{book-is}
 use Rattle.hv_session.specs.hv_beginning.specs.hv_steps.specs.hv_table_reader.specs.hv_acts.specs.hv_telling.specs.hv_house.specs.House.{entries_of}
 use Rattle.hv_session.specs.hv_beginning.specs.hv_steps.specs.hv_table_reader.specs.hv_acts.specs.hv_telling.specs.Telling.{IsWhole}
-use Rattle.hv_clean.specs.hv_compact.specs.hv_job_acts.specs.hv_job_calls.specs.Refusals.{picking, number_in, to_pick, published_by, publishing_of}
-use Rattle.hv_clean.specs.hv_compact.specs.hv_job_acts.specs.Going.{AddsItems}
-use Rattle.hv_clean.specs.hv_compact.specs.declared.compacting.Done.{Done as Finished}
-use Rattle.hv_clean.specs.hv_compact.specs.declared.compacting.Done.TheVariants as done
-use Rattle.hv_clean.specs.hv_compact.specs.declared.fault.RunFault.{RunFault}
-use Rattle.hv_clean.specs.hv_compact.specs.declared.fault.RunFault.TheVariants as run
-use Rattle.hv_clean.specs.hv_compact.specs.Stopping.{IsPicking, IsOfJob}
-use Rattle.hv_clean.specs.hv_compact.specs.Compacting.{IsMarkOf, IsWroteOf, IsPickedThen, StopsIn, FullIn, CompactsSo, StopsWith}
-use Rattle.hv_clean.specs.hv_compact.specs.Alone.{picked_with}
-use Rattle.hv_clean.specs.hv_compact.proofs.Alones.{front-length, same-front, alone-added, IsEndedAlone, ended-alone, compacts-alone}
-use Rattle.hv_clean.specs.hv_compact.proofs.Ends.{all-wrote}
+use Rattle.hv_compact.specs.hv_job_acts.specs.hv_job_calls.specs.Refusals.{picking, number_in, to_pick, published_by, publishing_of}
+use Rattle.hv_compact.specs.hv_job_acts.specs.Going.{AddsItems}
+use Rattle.hv_compact.specs.declared.compacting.Done.{Done as Finished}
+use Rattle.hv_compact.specs.declared.compacting.Done.TheVariants as done
+use Rattle.hv_compact.specs.declared.fault.RunFault.{RunFault}
+use Rattle.hv_compact.specs.declared.fault.RunFault.TheVariants as run
+use Rattle.hv_compact.specs.Stopping.{IsPicking, IsOfJob}
+use Rattle.hv_compact.specs.Compacting.{IsMarkOf, IsWroteOf, IsPickedThen, StopsIn, FullIn, CompactsSo, StopsWith}
+use Rattle.hv_compact.specs.Alone.{picked_with}
+use Rattle.hv_compact.proofs.Alones.{front-length, same-front, alone-added, IsEndedAlone, ended-alone, compacts-alone}
+use Rattle.hv_compact.proofs.Ends.{all-wrote}
 use Rattle.hv_program.specs.Background.{LacksRoomFor, IsCompacting, IsEndOfJob, WorksAt, WorksOne}
 use Rattle.hv_program.specs.Beside.{AddsBeside}
 use Rattle.hv_program.proofs.OwnEntries.{more-fits}

@@ -7,10 +7,10 @@ use Rattle.hv_history.specs.declared.entry.Entry.{Entry}
 use Rattle.hv_history.specs.declared.entry.Entry.TheVariants as entry
 use Rattle.hv_history.specs.State.{state_of}
 use Rattle.hv_history.specs.Legal.{load, profile}
-use Rattle.hv_clean.specs.hv_compact.specs.hv_job_acts.specs.declared.asking.PartAt.{PartAt}
-use Rattle.hv_clean.specs.hv_compact.specs.hv_job_acts.specs.hv_job_calls.specs.Refusals.{picking, to_pick, publishing_of}
-use Rattle.hv_clean.specs.hv_compact.specs.hv_job_acts.specs.Work.{parts_in, lost_in}
-use Rattle.hv_clean.specs.hv_compact.specs.Alone.{initiated_from}
+use Rattle.hv_compact.specs.hv_job_acts.specs.declared.asking.PartAt.{PartAt}
+use Rattle.hv_compact.specs.hv_job_acts.specs.hv_job_calls.specs.Refusals.{picking, to_pick, publishing_of}
+use Rattle.hv_compact.specs.hv_job_acts.specs.Work.{parts_in, lost_in}
+use Rattle.hv_compact.specs.Alone.{initiated_from}
 use Rattle.hv_clean.specs.Alone.{free_in, forgot_entry, SweepsSome}
 
 -- so many more of the load would pass the journal's limit

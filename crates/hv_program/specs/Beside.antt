@@ -11,14 +11,22 @@ use Rattle.hv_session.specs.hv_beginning.specs.hv_steps.specs.hv_table_reader.sp
 use Rattle.hv_session.specs.hv_beginning.specs.hv_steps.specs.hv_table_reader.specs.hv_acts.specs.hv_telling.specs.hv_house.specs.House.{entries_of, Leaves}
 use Rattle.hv_session.specs.hv_beginning.specs.hv_steps.specs.hv_table_reader.specs.hv_acts.specs.hv_telling.specs.Telling.{IsToldHouse}
 use Rattle.hv_session.specs.hv_beginning.specs.hv_steps.specs.declared.ready.Reply.{Reply}
-use Rattle.hv_clean.specs.hv_compact.specs.declared.fault.RunFault.{RunFault}
-use Rattle.hv_clean.specs.hv_compact.specs.declared.fault.RunFault.TheVariants as run
+use Rattle.hv_compact.specs.declared.fault.RunFault.{RunFault}
+use Rattle.hv_compact.specs.declared.fault.RunFault.TheVariants as run
+use Rattle.hv_clean.specs.declared.fault.PassFault.{PassFault}
+use Rattle.hv_clean.specs.declared.fault.PassFault.TheVariants as pass
 
 -- a pass or a job without room for its next entry ends there, and the run goes on
 abbrev pub fault_of : RunFault → Result (Unit {0}) HouseFault
 fault_of run.Store = Err fault.Store
 fault_of (run.Full entries) = Ok tt
 fault_of run.NoMemory = Err fault.NoMemory
+
+-- a pass of a cleaner stops as a run of acts does
+abbrev pub run_of : PassFault → RunFault
+run_of pass.Store = run.Store
+run_of (pass.Full entries) = run.Full entries
+run_of pass.NoMemory = run.NoMemory
 
 -- where it was done nothing is printed
 abbrev pub quietly : Result (Unit {0}) HouseFault → Result Reply HouseFault

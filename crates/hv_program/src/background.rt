@@ -9,11 +9,11 @@ ghost use Rattle.hv_session.specs.hv_beginning.specs.hv_steps.specs.hv_table_rea
 ghost use Rattle.hv_session.specs.hv_beginning.specs.hv_steps.specs.hv_table_reader.specs.hv_acts.specs.hv_telling.specs.hv_house.specs.Housed.{ShutsHard};
 ghost use Rattle.hv_session.specs.hv_beginning.specs.hv_steps.specs.hv_table_reader.specs.hv_acts.specs.hv_telling.specs.Telling.{IsWhole, IsToldHouse, StillOpens};
 ghost use Rattle.hv_program.specs.Background.{IsCompacting, IsCleaning, Initiated, WorksOne, Compacts, Cleans};
-ghost use Rattle.hv_program.specs.Beside.{fault_of, AddsBeside, StopsBeside};
+ghost use Rattle.hv_program.specs.Beside.{fault_of, run_of, AddsBeside, StopsBeside};
 ghost use Rattle.hv_program.specs.Stops.{IsShutFor};
 
-use hv_clean::clean_pass;
-use hv_clean::hv_compact::{RunFault, compact_one, initiate};
+use hv_clean::{PassFault, clean_pass};
+use hv_compact::{RunFault, compact_one, initiate};
 use hv_session::hv_beginning::hv_steps::hv_table_reader::hv_acts::ToldHouse;
 use hv_session::hv_beginning::hv_steps::hv_table_reader::hv_acts::hv_telling::hv_house::HouseFault;
 use hv_shelf::Shelf;
@@ -27,6 +27,17 @@ fn fault_of(why: RunFault) -> Result<(), HouseFault>
         RunFault::Store => Err(HouseFault::Store),
         RunFault::Full { .. } => Ok(()),
         RunFault::NoMemory => Err(HouseFault::NoMemory),
+    }
+}
+
+/// A pass of a cleaner stops as a run of acts does.
+fn run_of(why: PassFault) -> RunFault
+    ensures { result ≡ run_of why }
+{
+    match why {
+        PassFault::Store => RunFault::Store,
+        PassFault::Full { entries } => RunFault::Full { entries },
+        PassFault::NoMemory => RunFault::NoMemory,
     }
 }
 
@@ -118,6 +129,6 @@ pub fn clean<D: Shelf + Drop>(alloc: Global, house: &mut ToldHouse<D>) -> Result
 {
     match clean_pass(alloc, house) {
         Ok(_swept) => Ok(()),
-        Err(why) => fault_of(why),
+        Err(why) => fault_of(run_of(why)),
     }
 }

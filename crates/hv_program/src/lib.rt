@@ -2,6 +2,7 @@
 #![tactic(auto)]
 
 pub use hv_clean;
+pub use hv_compact;
 
 mod action;
 mod alone;

@@ -1,10 +1,9 @@
-use Rattle.std.proofs.Common.{Ok, Err, sym, subst}
-use Rattle.hv_actor.specs.Acting.{among, known}
+use Rattle.std.proofs.Common.{Ok, sym, subst}
+use Rattle.hv_actor.specs.Acting.{known}
 use Rattle.hv_job_acts.specs.hv_acts.specs.Told.{trail_in}
 use Rattle.hv_compact.specs.Ending.{IsPicked}
-use Rattle.hv_compact.proofs.Adds.{front-more}
 use Rattle.hv_compact.proofs.Gets.{works-front}
-use Rattle.hv_compact.proofs.Ends.{given-ends, staged-ends, less-behind, all-wrote}
+use Rattle.hv_compact.proofs.Ends.{given-ends, staged-ends, less-behind}
 use Rattle.hv_compact.proofs.Endings.{picked-there}
 use Rattle.hv_compact.proofs.compacting.compact_picked.Goals as goal
 

@@ -1,4 +1,4 @@
-use Rattle.std.proofs.Common.{inl, sym, ap, ◌∙◌, subst}
+use Rattle.std.proofs.Common.{inl, sym, subst}
 use Rattle.hv_actor.specs.Acting.{among, known}
 use Rattle.hv_compact.specs.declared.fault.RunFault.{RunFault}
 use Rattle.hv_compact.specs.declared.fault.RunFault.TheVariants as run

@@ -1,9 +1,9 @@
-use Rattle.std.proofs.Common.{◌≡◌, ◌≤◌, ◌+◌, ◌++◌, [], ◌∷◌, List, take, length, ap, sym, ◌∙◌, subst, arith}
+use Rattle.std.proofs.Common.{◌≡◌, ◌+◌, ◌++◌, [], ◌∷◌, List, take, ap, sym, ◌∙◌, subst, arith}
 use Rattle.std.proofs.lemmas.List.{take_more, take_all}
 use Rattle.hv_actor.specs.Acting.{among, known}
 use Rattle.hv_job_acts.specs.declared.asking.PartAt.{PartAt}
 use Rattle.hv_job_acts.specs.hv_acts.specs.Told.{trail_in}
-use Rattle.hv_compact.specs.Initiating.{AsksSome, AsksLess}
+use Rattle.hv_compact.specs.Initiating.{AsksSome}
 use Rattle.hv_compact.proofs.Turns.{some-none, some-more, some-less, few-turn}
 use Rattle.hv_compact.proofs.initiating.ask_each.Goals as goal
 

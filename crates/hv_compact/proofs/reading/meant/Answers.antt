@@ -1,5 +1,3 @@
-use Rattle.std.proofs.Common.{sym, ap, ◌∙◌}
-use Rattle.hv_table_rows.specs.Amiss.{first_amiss}
 use Rattle.hv_compact.proofs.Gets.{is-meant}
 use Rattle.hv_compact.proofs.reading.meant.Goals as goal
 

@@ -1,6 +1,5 @@
-use Rattle.std.proofs.Common.{◌≡◌, ◌+◌, ◌++◌, ◌∷◌, [], List, take, map, Ok, refl, ap, sym, ◌∙◌, subst}
+use Rattle.std.proofs.Common.{List, map, Ok, ap, sym, ◌∙◌, subst}
 use Rattle.std.proofs.lemmas.List.{take_all}
-use Rattle.hv_rowfile.specs.declared.record.Rec.{Rec}
 use Rattle.hv_choosing.specs.declared.listing.DirFile.{DirFile}
 use Rattle.hv_actor.specs.Acting.{known}
 use Rattle.hv_job_acts.specs.hv_acts.specs.Told.{trail_in}

@@ -1,4 +1,4 @@
-use Rattle.std.proofs.Common.{Err, List, sym, subst}
+use Rattle.std.proofs.Common.{Err, sym, subst}
 use Rattle.std.specs.Global.{Vec}
 use Rattle.hv_rowfile.specs.declared.record.Rec.{Rec}
 use Rattle.hv_actor.specs.Acting.{among, known}

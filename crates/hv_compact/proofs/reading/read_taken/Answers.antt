@@ -1,9 +1,8 @@
-use Rattle.std.proofs.Common.{◌≡◌, ◌++◌, ◌∷◌, [], ℕ, true, false, List, map, refl, sym, ap, ◌∙◌, subst, append-nil}
+use Rattle.std.proofs.Common.{◌≡◌, ◌++◌, ◌∷◌, [], ℕ, List, map, sym, ap, ◌∙◌, subst, append-nil}
 use Rattle.std.proofs.lemmas.Result.{on_ok_weaker}
-use Rattle.hv_rowfile.specs.declared.record.Rec.{Rec}
 use Rattle.hv_choosing.specs.declared.listing.DirFile.{DirFile}
 use Rattle.hv_actor.specs.Acting.{known}
-use Rattle.hv_compact.specs.Gathering.{is_taken, taken_in}
+use Rattle.hv_compact.specs.Gathering.{taken_in}
 use Rattle.hv_compact.specs.Reading.{ReadsOne}
 use Rattle.hv_compact.proofs.Gets.{items_in, works-none, files-more, taken-bucket, taken-one, taken-none}
 use Rattle.hv_compact.proofs.reading.read_taken.Goals as goal

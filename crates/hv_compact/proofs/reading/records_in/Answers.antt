@@ -1,5 +1,4 @@
-use Rattle.std.proofs.Common.{List, ℕ, Some, sym, ap, subst}
-use Rattle.std.specs.Global.{Vec}
+use Rattle.std.proofs.Common.{List, ℕ, sym, subst}
 use Rattle.hv_law_made.specs.Standing.{IsEncodingOf}
 use Rattle.hv_compact.proofs.reading.records_in.Goals as goal
 

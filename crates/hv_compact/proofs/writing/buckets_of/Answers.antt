@@ -1,6 +1,6 @@
-use Rattle.std.proofs.Common.{◌≡◌, ◌≤◌, ◌+◌, ◌^◌, take, ap, sym, ◌∙◌, subst, arith, rules}
+use Rattle.std.proofs.Common.{◌≤◌, ◌+◌, ◌^◌, ap, sym, ◌∙◌, subst, rules}
 use Rattle.std.proofs.lemmas.List.{take_all}
-use Rattle.hv_compact.specs.Gathering.{larger, buckets_of}
+use Rattle.hv_compact.specs.Gathering.{buckets_of}
 use Rattle.hv_compact.proofs.Buckets.{buckets-next, larger-within}
 use Rattle.hv_compact.proofs.writing.buckets_of.Goals as goal
 

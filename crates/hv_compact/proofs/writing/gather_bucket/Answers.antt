@@ -1,6 +1,3 @@
-use Rattle.std.proofs.Common.{List, map, sym, ap, ◌∙◌, subst}
-use Rattle.hv_rowfile.specs.declared.record.Rec.{Rec}
-use Rattle.hv_merge.specs.Gathering.{gathered}
 use Rattle.hv_actor.specs.Acting.{known}
 use Rattle.hv_compact.proofs.Gets.{items_in, works-or-lacking, works-up}
 use Rattle.hv_compact.proofs.Buckets.{files-rise}

@@ -1,5 +1,4 @@
-use Rattle.std.proofs.Common.{◌≡◌, true, false, List, Ok, map, refl, sym, ap, ◌∙◌, subst}
-use Rattle.hv_rowfile.specs.declared.record.Rec.{Rec}
+use Rattle.std.proofs.Common.{true, false, List, Ok, map, sym, ap, ◌∙◌, subst}
 use Rattle.hv_choosing.specs.declared.listing.DirFile.{DirFile}
 use Rattle.hv_actor.specs.Acting.{known}
 use Rattle.hv_job_acts.specs.hv_acts.specs.Told.{trail_in}

@@ -1,4 +1,3 @@
-use Rattle.std.proofs.Common.{Ok}
 use Rattle.hv_actor.specs.Acting.{known}
 use Rattle.hv_compact.proofs.Gets.{works-up, works-done}
 use Rattle.hv_compact.proofs.Lists.{empty-so, empty-not, not-false, not-true}

@@ -1,9 +1,7 @@
-use Rattle.std.proofs.Common.{◌≡◌, true, false, Ok, sym, subst}
-use Rattle.std.specs.Prelude.{Bool}
 use Rattle.hv_actor.specs.Acting.{known}
 use Rattle.hv_job_acts.specs.hv_acts.specs.Told.{trail_in}
 use Rattle.hv_job_acts.specs.hv_job_calls.proofs.OnOk.{ok-weaker}
-use Rattle.hv_compact.proofs.Gets.{works-none, works-front, works-told, works-untold}
+use Rattle.hv_compact.proofs.Gets.{works-none, works-front}
 use Rattle.hv_compact.proofs.Lists.{bare-due, all-by-some, all-by-bare}
 use Rattle.hv_compact.proofs.writing.write_bare.Goals as goal
 

@@ -1,9 +1,6 @@
-use Rattle.std.proofs.Common.{◌≡◌, List, Ok, sym, ◌∙◌, subst}
-use Rattle.hv_rowfile.specs.declared.record.Rec.{Rec}
+use Rattle.std.proofs.Common.{Ok, ◌∙◌}
 use Rattle.hv_actor.specs.Acting.{known}
 use Rattle.hv_job_acts.specs.hv_acts.specs.Told.{trail_in}
-use Rattle.hv_compact.specs.Gathering.{base_of, major_recs}
-use Rattle.hv_compact.specs.Writing.{IfSome, IsStagedIn}
 use Rattle.hv_compact.proofs.Gets.{works-up, works-then, works-front, works-untold}
 use Rattle.hv_compact.proofs.Lists.{lists-later, major-due, major-so}
 use Rattle.hv_compact.proofs.writing.write_base_bucket.Goals as goal

@@ -1,4 +1,4 @@
-use Rattle.std.proofs.Common.{◌≡◌, Ok, refl}
+use Rattle.std.proofs.Common.{Ok, refl}
 use Rattle.hv_actor.specs.Acting.{known}
 use Rattle.hv_job_acts.specs.hv_acts.specs.Told.{trail_in}
 use Rattle.hv_compact.proofs.Gets.{works-none, works-then, works-up, works-front, works-told, works-untold}

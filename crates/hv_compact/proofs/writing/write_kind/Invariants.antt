@@ -1,4 +1,4 @@
-use Rattle.std.proofs.Common.{Ok, ◌≤◌}
+use Rattle.std.proofs.Common.{Ok}
 use Rattle.hv_actor.specs.Acting.{among, known}
 use Rattle.hv_job_acts.specs.hv_acts.specs.Told.{trail_in}
 use Rattle.hv_job_acts.specs.hv_acts.specs.hv_telling.specs.Telling.{IsToldHouse}

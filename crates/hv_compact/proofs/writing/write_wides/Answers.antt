@@ -1,4 +1,4 @@
-use Rattle.std.proofs.Common.{◌≡◌, ℕ, true, false, Ok, sym, ap, ◌∙◌, subst}
+use Rattle.std.proofs.Common.{Ok}
 use Rattle.hv_actor.specs.Acting.{known}
 use Rattle.hv_job_acts.specs.hv_acts.specs.Told.{trail_in}
 use Rattle.hv_job_acts.specs.hv_job_calls.proofs.OnOk.{ok-weaker}

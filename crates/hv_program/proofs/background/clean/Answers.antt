@@ -47,31 +47,31 @@ returns-in-Ok-clause-cause g c =
 
 pub returns-in-Err-clause-whole : goal.returns-in-Err-clause-whole
 returns-in-Err-clause-whole g c =
-    full-ok c.in-Err.why c.fault_of.result (IsWhole g.D.Shelf.told c.clean_pass.new.actor.house) c.fault_of.ensures
+    full-ok c.run_of.result c.fault_of.result (IsWhole g.D.Shelf.told c.clean_pass.new.actor.house) c.fault_of.ensures
     (λ entries is. c.clean_pass.ensures.keeps.0.whole (cleans-open g.D.Shelf.told g.D.Shelf.faults (own_alone (seen_in c.args.house.now)) (own_alone (seen_in c.clean_pass.new.actor)) c.args.house.now c.clean_pass.new.actor c.in-Err.why
-    (err-of c.clean_pass.result _ c.in-Err.why c.in-Err.is c.clean_pass.ensures.less) entries is))
+    (err-of c.clean_pass.result _ c.in-Err.why c.in-Err.is c.clean_pass.ensures.less) c.run_of.result c.run_of.ensures entries is))
 
 pub returns-in-Err-clause-later : goal.returns-in-Err-clause-later
 returns-in-Err-clause-later g c =
-    full-ok c.in-Err.why c.fault_of.result (IsLater g.D.Shelf.faults (seen_in c.args.house.now) (seen_in c.clean_pass.new.actor)) c.fault_of.ensures (λ entries is. c.clean_pass.ensures.later)
+    full-ok c.run_of.result c.fault_of.result (IsLater g.D.Shelf.faults (seen_in c.args.house.now) (seen_in c.clean_pass.new.actor)) c.fault_of.ensures (λ entries is. c.clean_pass.ensures.later)
 
 pub returns-in-Err-clause-opens : goal.returns-in-Err-clause-opens
 returns-in-Err-clause-opens g c =
-    λ is. stops-err c.in-Err.why c.fault_of.result (λ why. StillOpens g.D.Shelf.told c.clean_pass.new.actor.house) c.fault_of.ensures
+    λ is. stops-err c.run_of.result c.fault_of.result (λ why. StillOpens g.D.Shelf.told c.clean_pass.new.actor.house) c.fault_of.ensures
     (λ store. still-opens g.D.Shelf.told g.D.Shelf.faults c.args.house.now c.clean_pass.new.actor c.clean_pass.ensures.later c.clean_pass.ensures.keeps.0 is)
     (λ memory. still-opens g.D.Shelf.told g.D.Shelf.faults c.args.house.now c.clean_pass.new.actor c.clean_pass.ensures.later c.clean_pass.ensures.keeps.0 is)
 
 pub returns-in-Err-clause-cause : goal.returns-in-Err-clause-cause
 returns-in-Err-clause-cause g c =
-    stops-cause g.D.Shelf.faults c.args.house.now c.clean_pass.new.actor c.clean_pass.ensures.later c.requires.whole.ready.kept.running c.in-Err.why c.fault_of.result c.fault_of.ensures
+    stops-cause g.D.Shelf.faults c.args.house.now c.clean_pass.new.actor c.clean_pass.ensures.later c.requires.whole.ready.kept.running c.run_of.result c.fault_of.result c.fault_of.ensures
     (cleans-shut g.D.Shelf.told g.D.Shelf.faults (own_alone (seen_in c.args.house.now)) (own_alone (seen_in c.clean_pass.new.actor)) c.args.house.now c.clean_pass.new.actor c.in-Err.why
-    (err-of c.clean_pass.result _ c.in-Err.why c.in-Err.is c.clean_pass.ensures.less))
+    (err-of c.clean_pass.result _ c.in-Err.why c.in-Err.is c.clean_pass.ensures.less) c.run_of.result c.run_of.ensures)
 
 pub returns-in-Err-clause-shut : goal.returns-in-Err-clause-shut
 returns-in-Err-clause-shut g c =
-    stops-shut g.D.Shelf.faults c.args.house.now c.clean_pass.new.actor c.clean_pass.ensures.later c.requires.whole.ready.kept.running c.in-Err.why c.fault_of.result c.fault_of.ensures
+    stops-shut g.D.Shelf.faults c.args.house.now c.clean_pass.new.actor c.clean_pass.ensures.later c.requires.whole.ready.kept.running c.run_of.result c.fault_of.result c.fault_of.ensures
     (cleans-shut g.D.Shelf.told g.D.Shelf.faults (own_alone (seen_in c.args.house.now)) (own_alone (seen_in c.clean_pass.new.actor)) c.args.house.now c.clean_pass.new.actor c.in-Err.why
-    (err-of c.clean_pass.result _ c.in-Err.why c.in-Err.is c.clean_pass.ensures.less))
+    (err-of c.clean_pass.result _ c.in-Err.why c.in-Err.is c.clean_pass.ensures.less) c.run_of.result c.run_of.ensures)
 
 pub returns-in-Ok-clause-added : goal.returns-in-Ok-clause-added
 returns-in-Ok-clause-added g c =
@@ -80,14 +80,14 @@ returns-in-Ok-clause-added g c =
 
 pub returns-in-Err-clause-added : goal.returns-in-Err-clause-added
 returns-in-Err-clause-added g c =
-    full-ok c.in-Err.why c.fault_of.result (AddsBeside IsCleaning (entries_of c.args.house.now.house) (entries_of c.clean_pass.new.actor.house)) c.fault_of.ensures
+    full-ok c.run_of.result c.fault_of.result (AddsBeside IsCleaning (entries_of c.args.house.now.house) (entries_of c.clean_pass.new.actor.house)) c.fault_of.ensures
     (λ entries is. swept-some g.D.Shelf.told g.D.Shelf.faults (own_alone (seen_in c.args.house.now)) (own_alone (seen_in c.clean_pass.new.actor)) c.args.house.now c.clean_pass.new.actor c.in-Err.why
     (err-of c.clean_pass.result _ c.in-Err.why c.in-Err.is c.clean_pass.ensures.less))
 
 pub returns-in-Err-clause-stopped : goal.returns-in-Err-clause-stopped
 returns-in-Err-clause-stopped g c =
-    swept-stopped g.D.Shelf.told g.D.Shelf.faults (own_alone (seen_in c.args.house.now)) (own_alone (seen_in c.clean_pass.new.actor)) c.args.house.now c.clean_pass.new.actor c.in-Err.why c.fault_of.result c.fault_of.ensures c.clean_pass.ensures.later c.clean_pass.ensures.keeps.0 c.requires.begun
-    (err-of c.clean_pass.result _ c.in-Err.why c.in-Err.is c.clean_pass.ensures.less)
+    swept-stopped g.D.Shelf.told g.D.Shelf.faults (own_alone (seen_in c.args.house.now)) (own_alone (seen_in c.clean_pass.new.actor)) c.args.house.now c.clean_pass.new.actor c.run_of.result c.fault_of.result c.fault_of.ensures c.clean_pass.ensures.later c.clean_pass.ensures.keeps.0 c.requires.begun
+    c.in-Err.why c.run_of.ensures (err-of c.clean_pass.result _ c.in-Err.why c.in-Err.is c.clean_pass.ensures.less)
 
 pub returns-in-Ok-clause-done : goal.returns-in-Ok-clause-done
 returns-in-Ok-clause-done g c =
