@@ -1,7 +1,7 @@
 -- Where others add nothing: whatever failed or was listed still, a pass cleans some of the free jobs and forgets some of the aborted ids.
 use Rattle.std.proofs.Common.{◌≡◌, ◌⊎◌, inl, inr, ℕ, ◌+◌, ◌<◌, Bool, true, false, Option, List, [], ◌∷◌, ◌++◌, map, filter, refl, sym, ap, ◌∙◌, subst, append-nil, append_assoc, arith}
 use Rattle.std.proofs.lemmas.List.{append_cancel_right}
-use Rattle.std.specs.Prelude.{if◌then◌else◌, ◌×◌}
+use Rattle.std.specs.Prelude.{if◌then◌else◌}
 use Rattle.hv_base.specs.declared.ids.JobId.{JobId}
 use Rattle.hv_shelf.specs.Disk.{Store}
 use Rattle.hv_history.specs.declared.entry.Entry.{Entry}
@@ -113,18 +113,19 @@ module _ {D : Type 0} (told : D → Option Store) (faults : D → ℕ) (B : List
         book = books ∙ sym (append-nil (book_in a.house));
         same = subst (λ (book : List Entry). Same s0 (state_of book)) (sym books) same;
       }
-  each-some s0 a b (id ∷ ids) low f t each same pends = by (one-may s0 a each.0 id f each.1 each.2 same pends.1)
+  each-some s0 a b (id ∷ ids) low f t each same pends =
+      by (λ same_ pends_. each-some s0 each.0 b ids (id.0 + 1) each.1 t each.3 same_ pends_) (one-may s0 a each.0 id f each.1 each.2 same pends.1)
     where
       low-next : id.0 < id.0 + 1
       low-next = omega arith
 
-      by : MayTurn s0 a each.0 id → CleansSome s0 a b (id ∷ ids)
-      by (inl free) =
+      by : (Same s0 (state_of (book_in each.0.house)) → Pends s0 (state_of (book_in each.0.house)) (id.0 + 1) ids → CleansSome s0 each.0 b ids)
+          → MayTurn s0 a each.0 id → CleansSome s0 a b (id ∷ ids)
+      by behind (inl free) =
           let states : state_of (book_in each.0.house) ≡ after (state_of (book_in a.house)) (entry.Cleaned id) =
           ap state_of free.1 ∙ state_of-snoc (book_in a.house) (entry.Cleaned id) in
           let rest : CleansSome s0 each.0 b ids =
-          each-some s0 each.0 b ids (id.0 + 1) each.1 t each.3
-          (subst (Same s0) (sym states) (same-after s0 (state_of (book_in a.house)) id same))
+          behind (subst (Same s0) (sym states) (same-after s0 (state_of (book_in a.house)) id same))
           (subst (λ (u : State). Pends s0 u (id.0 + 1) ids) (sym states)
           (pends-after s0 (state_of (book_in a.house)) id ids (id.0 + 1) low-next pends.3)) in
           record {
@@ -134,10 +135,10 @@ module _ {D : Type 0} (told : D → Option Store) (faults : D → ℕ) (B : List
                 ∙ append_assoc (book_in a.house) (entry.Cleaned id ∷ []) (map entry.Cleaned rest.jobs);
             same = rest.same;
           }
-      by (inr books) =
+      by behind (inr books) =
           let states : state_of (book_in each.0.house) ≡ state_of (book_in a.house) = ap state_of books in
           let rest : CleansSome s0 each.0 b ids =
-          each-some s0 each.0 b ids (id.0 + 1) each.1 t each.3 (subst (Same s0) (sym states) same)
+          behind (subst (Same s0) (sym states) same)
           (subst (λ (u : State). Pends s0 u (id.0 + 1) ids) (sym states) pends.3) in
           record {
             jobs = rest.jobs;
@@ -175,19 +176,16 @@ module _ {D : Type 0} (told : D → Option Store) (faults : D → ℕ) (B : List
 
   pub each-forget : (a b : M) (all : List LostId) (f t : Swept) → ForgetEach S a b all f t → ForgetsSome a b all
   each-forget a b [] f t each = forgets-none a b [] (sweeps-book told faults B rows meanwhile none a b f t each)
-  each-forget a b (id ∷ all) f t each = by (one-forget a each.0 id f each.1 each.2)
+  each-forget a b (id ∷ all) f t each = by (each-forget each.0 b all each.1 t each.3) (one-forget a each.0 id f each.1 each.2)
     where
-      rest : ForgetsSome each.0 b all
-      rest = each-forget each.0 b all each.1 t each.3
-
-      by : MayForget a each.0 id → ForgetsSome a b (id ∷ all)
-      by (inl first) = record {
+      by : ForgetsSome each.0 b all → MayForget a each.0 id → ForgetsSome a b (id ∷ all)
+      by rest (inl first) = record {
         ids = id ∷ rest.ids;
         some = inl (refl, rest.some);
         book = rest.book ∙ ap (λ (xs : List Entry). xs ++ map forgot_entry rest.ids) first
             ∙ append_assoc (book_in a.house) (forgot_entry id ∷ []) (map forgot_entry rest.ids);
       }
-      by (inr books) = record {
+      by rest (inr books) = record {
         ids = rest.ids;
         some = some-skip rest.ids id all rest.some;
         book = rest.book ∙ ap (λ (xs : List Entry). xs ++ map forgot_entry rest.ids) books;

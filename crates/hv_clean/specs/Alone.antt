@@ -1,5 +1,5 @@
 -- What a pass of a cleaner adds to the book where nobody else adds anything and no call on files fails.
-use Rattle.std.specs.Prelude.{◌≡◌, ◌×◌, ◌⊎◌, ℕ, Bool, false, Option, Some, None, List, [], ◌∷◌, ◌++◌, map, filter}
+use Rattle.std.specs.Prelude.{◌≡◌, ◌⊎◌, ℕ, Bool, false, Option, Some, None, List, [], ◌∷◌, ◌++◌, map, filter}
 use Rattle.hv_shelf.specs.Disk.{Store}
 use Rattle.hv_base.specs.declared.ids.JobId.{JobId}
 use Rattle.hv_history.specs.declared.entry.Entry.{Entry}
