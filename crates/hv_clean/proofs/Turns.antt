@@ -114,7 +114,8 @@ module _ {D : Type 0} (told : D → Option Store) (faults : D → ℕ) (between 
       pub remove-behind : (why : JobActFault) (from : Swept) → result ≡ Err why
           → BehindAs told faults between meanwhile goes_on (known own before) (known own' now) from (refusal_of why)
       remove-behind why from is =
-          behind-err told faults between meanwhile goes_on Removing own own' before now was from (Remove None dir) (remove-quietly dir) result why is held went
+          behind-err told faults between meanwhile goes_on Removing own own' before now was from (Remove None dir) (remove-quietly dir)
+          (λ seen entries so. absurd so.others) result why is held went
 
       pub remove-done : (from : Swept) → result ≡ Ok tt → Sweeps Its (known own before) (known own' now) from from
       remove-done from is =

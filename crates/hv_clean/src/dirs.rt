@@ -7,8 +7,8 @@ ghost use Rattle.hv_clean.specs.Dirs.{IsOwnIf, is_staged_name, IsStagedIf, dir_o
 ghost use Rattle.hv_clean.specs.Removing.{IsLostDir};
 
 use hv_base::{Duplicate, NoMemory, Text};
-use hv_job_acts::LostId;
 use hv_dirs::{DirName, parse_name};
+use hv_job_acts::LostId;
 use hv_shelf::{DirAt, Place};
 use std::alloc::Global;
 

@@ -6,8 +6,8 @@ ghost use Rattle.hv_clean.specs.Removing.{counted_as, unless_stopped};
 
 use crate::fault::{PassFault, Swept, count_fault};
 use hv_job_acts::JobActFault;
-use hv_job_acts::hv_job_calls::JobFault;
 use hv_job_acts::hv_acts::hv_telling::hv_house::HouseFault;
+use hv_job_acts::hv_job_calls::JobFault;
 
 /// Why an act of a cleaner was refusal_of, as far as the pass asks.
 #[derive(Clone, Copy)]
