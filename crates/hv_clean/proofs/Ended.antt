@@ -122,8 +122,8 @@ module _ {D : Type 0} (told : D → Option Store) (faults : D → ℕ) (between 
     pub note-behind : (result : Result (Unit {0}) JobActFault) (why : JobActFault) (from : Swept) → result ≡ Err why → NoteHeld result → NoteWent result
         → BehindAs told faults between meanwhile goes_on A B from (refusal_of why)
     note-behind result why from is held went =
-        behind-err told faults between meanwhile goes_on Cleaning own own' before now was from (Note (entry.Cleaned job)) (cleaned-quietly job) result why is
-        held went
+        behind-err told faults between meanwhile goes_on Cleaning own own' before now was from (Note (entry.Cleaned job)) (cleaned-quietly job)
+        (λ seen entries so. so.full entries refl) result why is held went
 
     -- the book with its entry fits
     entry-fits : (then_ : List TrailItem) → trail_in now ≡ then_ ++ Noted (entry.Cleaned job) ∷ [] → AllFit profile nothing_yet (book_of (trail_in now))
@@ -132,9 +132,9 @@ module _ {D : Type 0} (told : D → Option Store) (faults : D → ℕ) (between 
         (fit-split profile nothing_yet (book_of then_) (entry.Cleaned job ∷ [])
         (subst (λ (book : List Entry). AllFit profile nothing_yet book) (ap book_of last ∙ book-append then_ (Noted (entry.Cleaned job) ∷ [])) fit)).1.0
 
-    pub note-done : (result : Result (Unit {0}) JobActFault) (from : Swept) → result ≡ Ok tt → NoteHeld result → NoteWent result
-        → IsWholeOrClosed told now.house → EndsTurn Its A B job removed.All from (count_cleaned from)
-    note-done result from is held went kept =
+    pub note-done : (result : Result (Unit {0}) JobActFault) (from to : Swept) → result ≡ Ok tt → to ≡ count_cleaned from → NoteHeld result → NoteWent result
+        → IsWholeOrClosed told now.house → EndsTurn Its A B job removed.All from to
+    note-done result from to is counts held went kept =
         let held_ : NoteHeld (Ok tt) = subst NoteHeld is held in
         let went_ : NoteWent (Ok tt) = subst NoteWent is went in
         let running : IsOpenHouse now =
@@ -149,7 +149,7 @@ module _ {D : Type 0} (told : D → Option Store) (faults : D → ℕ) (between 
             gone = (held_.does_it.answers held_.does_it.leaves).marked;
             fits = entry-fits (trail_in held_.house) held_.step.trail (fits-in told now kept running);
           },
-          refl,
+          counts,
         )
 
     -- ---- it isn't noted
@@ -248,8 +248,8 @@ module _ {D : Type 0} (told : D → Option Store) (faults : D → ℕ) (between 
   pub end-left : (a : Moment (ToldHouse D)) (f : Swept) → IsOpenHouse a.house → EndsTurn Its a a job removed.Left f f
   end-left a f running = (none-asks a running, refl)
 
-  pub end-held : (a : Moment (ToldHouse D)) (f : Swept) → IsOpenHouse a.house → EndsTurn Its a a job removed.Held f (count_held f)
-  end-held a f running = (none-asks a running, refl)
+  pub end-held : (a : Moment (ToldHouse D)) (f t : Swept) → IsOpenHouse a.house → t ≡ count_held f → EndsTurn Its a a job removed.Held f t
+  end-held a f t running counts = (none-asks a running, counts)
 
   pub end-over : (a : Moment (ToldHouse D)) (f : Swept) → IsOpenHouse a.house → EndsTurn Its a a job removed.Over f f
   end-over a f running = (none-asks a running, refl)

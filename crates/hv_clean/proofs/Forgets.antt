@@ -73,9 +73,9 @@ module _ {D : Type 0} (told : D → Option Store) (faults : D → ℕ) (between 
     abbrev ForgetWent : Result (Unit {0}) JobActFault → Type 0
     ForgetWent result = HasAdded between (adds_forgotten id.table id.write result) own own' (trail_in before) (trail_in now)
 
-    pub forget-done : (result : Result (Unit {0}) JobActFault) (from : Swept) → result ≡ Ok tt → ForgetHeld result → ForgetWent result
-        → ForgetsOne Its A B id from (count_forgotten from)
-    forget-done result from is held went =
+    pub forget-done : (result : Result (Unit {0}) JobActFault) (from to : Swept) → result ≡ Ok tt → to ≡ count_forgotten from → ForgetHeld result → ForgetWent result
+        → ForgetsOne Its A B id from to
+    forget-done result from to is counts held went =
         let held_ : ForgetHeld (Ok tt) = subst ForgetHeld is held in
         let went_ : ForgetWent (Ok tt) = subst ForgetWent is went in
         record {
@@ -89,7 +89,7 @@ module _ {D : Type 0} (told : D → Option Store) (faults : D → ℕ) (between 
               running = act-open told faults between meanwhile goes_on (Note (entry.Forgot id.table id.write)) Forgetting own own' before now (Ok tt) held_
                   held_.does_it.leaves refl;
             },
-            refl,
+            counts,
           );
         }
 
@@ -107,8 +107,8 @@ module _ {D : Type 0} (told : D → Option Store) (faults : D → ℕ) (between 
     forget-so (act.Broken put count) from held went = nothing_ (act.Broken put count) Ask from held held.does_it.leaves refl went
     forget-so (act.Call fault.Gone) from held went = nothing_ (act.Call fault.Gone) Ask from held held.does_it.leaves refl went
     forget-so (act.Call (fault.Full entries)) from held went =
-        none-full told faults between meanwhile goes_on Forgetting own own' before now was from Ask (Err (act.Call (fault.Full entries))) entries held
-        held.does_it.leaves refl went
+        none-full told faults between meanwhile goes_on Forgetting own own' before now was from entries held
+        ((held.does_it.answers held.does_it.leaves).full entries refl) went
     forget-so (act.Call fault.NotFound) from held went = nothing_ (act.Call fault.NotFound) Ask from held held.does_it.leaves refl went
     forget-so (act.Call (fault.Needed txn)) from held went = nothing_ (act.Call (fault.Needed txn)) Ask from held held.does_it.leaves refl went
     forget-so (act.Call (fault.StillListed dir)) from held went = nothing_ (act.Call (fault.StillListed dir)) Ask from held held.does_it.leaves refl went

@@ -7,6 +7,7 @@ use Rattle.hv_shelf.specs.declared.place.DirAt.{DirAt}
 use Rattle.hv_shelf.specs.Disk.{Store}
 use Rattle.hv_history.specs.declared.entry.Entry.{Entry}
 use Rattle.hv_history.specs.declared.entry.Entry.TheVariants as entry
+use Rattle.hv_history.specs.Legal.{profile}
 use Rattle.hv_history.specs.Lasting.{IsFront}
 use Rattle.hv_trail.specs.declared.trail.TrailItem.{TrailItem}
 use Rattle.hv_trail.specs.declared.trail.TrailItem.TheVariants.{Marked}
@@ -17,6 +18,7 @@ use Rattle.hv_trail.specs.Steps.{HouseSeen, Call, Note, Remove, Read, Ask, Close
 use Rattle.hv_actor.specs.Acting.{IsLater, Held, Went, Setting, Moment, among, known}
 use Rattle.hv_actor.proofs.Weaving.{later-further}
 use Rattle.hv_job_acts.specs.hv_acts.specs.hv_telling.specs.hv_house.specs.declared.fault.HouseFault.TheVariants as house_fault
+use Rattle.hv_job_acts.specs.hv_acts.specs.hv_telling.specs.hv_house.specs.Calls.{LacksRoom}
 use Rattle.hv_job_acts.specs.hv_job_calls.specs.declared.fault.JobFault.TheVariants as fault
 use Rattle.hv_job_acts.specs.hv_acts.specs.declared.told.ToldHouse.{ToldHouse}
 use Rattle.hv_job_acts.specs.hv_acts.specs.Told.{seen_in, trail_in, told_sight}
@@ -27,6 +29,7 @@ use Rattle.hv_job_acts.specs.Answers.{act_call, act_outcome, answer_call, answer
 use Rattle.hv_job_acts.specs.Questions.{AnswersSo}
 use Rattle.hv_job_acts.specs.Going.{AddsItems, IsShutFor}
 use Rattle.hv_job_acts.specs.Laters.{job_later}
+use Rattle.hv_clean.specs.declared.fault.PassFault.{PassFault}
 use Rattle.hv_clean.specs.declared.fault.PassFault.TheVariants as run
 use Rattle.hv_clean.specs.declared.fault.Swept.{Swept}
 use Rattle.hv_clean.specs.declared.stopping.Refused.TheVariants as refused_as
@@ -163,16 +166,19 @@ module _ {D : Type 0} (told : D → Option Store) (faults : D → ℕ) (between 
       adds = act-adds call Answers own own' before now result held [] went;
       each = tt;
       stops = act-open call Answers own own' before now result held running opens;
+      full = tt;
     }
 
-    pub none-full : (call : Call) (result : Result T JobActFault) (entries : ℕ) (held : JobHeld call Answers before now result) → IsOpenHouse held.house
-        → shuts (answer_outcome result) ≡ false → Went between [] own own' (trail_in before) (trail_in now)
+    -- there is no room in the book as it is now
+    pub none-full : (entries : ℕ) (held : JobHeld Ask Answers before now (Err (act.Call (fault.Full entries))))
+        → LacksRoom profile (book_of (trail_in held.house)) 1 entries → Went between [] own own' (trail_in before) (trail_in now)
         → SweepsLess Its Was Now (run.Full entries)
-    none-full call result entries held running opens went = record {
+    none-full entries held lacks went = record {
       items = [];
-      adds = act-adds call Answers own own' before now result held [] went;
+      adds = act-adds Ask Answers own own' before now (Err (act.Call (fault.Full entries))) held [] went;
       each = tt;
-      stops = act-open call Answers own own' before now result held running opens;
+      stops = act-open Ask Answers own own' before now (Err (act.Call (fault.Full entries))) held held.does_it.leaves refl;
+      full = subst (λ (trail : List TrailItem). LacksRoom profile (book_of trail) 1 entries) (sym (held.step.trail ∙ append-nil (trail_in held.house))) lacks;
     }
 
     pub shut-less : (call : Call) (result : Result T JobActFault) (held : JobHeld call Answers before now result) → IsCleaning call
@@ -183,6 +189,7 @@ module _ {D : Type 0} (told : D → Option Store) (faults : D → ℕ) (between 
       adds = act-adds call Answers own own' before now result held [] went;
       each = tt;
       stops = act-shut call Answers own own' before now result held was cleans none shuts_;
+      full = tt;
     }
 
     pub broke-swept : (call : Call) (result : Result T JobActFault) (count : ℕ) (held : JobHeld call Answers before now result) → IsOpenHouse held.house
@@ -221,7 +228,8 @@ module _ {D : Type 0} (told : D → Option Store) (faults : D → ℕ) (between 
         (subst (λ (r : Result T JobActFault). Went between (adds_by (Read None) r) own own' (trail_in before) (trail_in now)) is went)
 
     -- by the calls of a cleaner
-    module _ (base : Call) (quietly : IsQuietly base) where
+    module _ (base : Call) (quietly : IsQuietly base)
+        (lacking : (seen : HouseSeen D) (entries : ℕ) → Answers seen (Err (act.Call (fault.Full entries))) → LacksRoom profile (book_of seen.trail) 1 entries) where
       abbrev GainsBy : List TrailItem → Type 0
       GainsBy items = Went between items own own' (trail_in before) (trail_in now)
 
@@ -230,7 +238,8 @@ module _ {D : Type 0} (told : D → Option Store) (faults : D → ℕ) (between 
       behind act.Unfit held went = nothing-swept Ask (Err act.Unfit) held held.does_it.leaves refl went
       behind (act.Broken put count) held went = nothing-swept Ask (Err (act.Broken put count)) held held.does_it.leaves refl went
       behind (act.Call fault.Gone) held went = nothing-swept Ask (Err (act.Call fault.Gone)) held held.does_it.leaves refl went
-      behind (act.Call (fault.Full entries)) held went = none-full Ask (Err (act.Call (fault.Full entries))) entries held held.does_it.leaves refl went
+      behind (act.Call (fault.Full entries)) held went =
+          none-full entries held (lacking (seen_in held.house) entries (held.does_it.answers held.does_it.leaves)) went
       behind (act.Call fault.NotFound) held went = nothing-swept Ask (Err (act.Call fault.NotFound)) held held.does_it.leaves refl went
       behind (act.Call (fault.Needed txn)) held went = nothing-swept Ask (Err (act.Call (fault.Needed txn))) held held.does_it.leaves refl went
       behind (act.Call (fault.StillListed dir)) held went = nothing-swept Ask (Err (act.Call (fault.StillListed dir))) held held.does_it.leaves refl went
@@ -280,6 +289,7 @@ module _ {D : Type 0} (told : D → Option Store) (faults : D → ℕ) (between 
       adds = act-adds Ask SaysSo own own' before now (Err (act.Call (fault.House house_fault.Store))) held [] went;
       each = tt;
       stops = by (either held.house.house.trail.closed);
+      full = tt;
     }
       where
         by : (held.house.house.trail.closed ≡ true) ⊎ (held.house.house.trail.closed ≡ false) → IsShutFor Its IsCleaning now
@@ -301,9 +311,11 @@ module _ {D : Type 0} (told : D → Option Store) (faults : D → ℕ) (between 
         none-less SaysSo own own' before now was nothing Ask (Err (act.Call (fault.House house_fault.NoMemory))) held held.does_it.leaves refl went
     ask-refused (act.Call (fault.House (house_fault.Failed count))) held went = absurd (held.does_it.answers held.does_it.leaves.0)
 
-    pub asked-less : (result : Result T JobActFault) (why : JobActFault) → result ≡ Err why → AskHeld result → WentNone
-        → SweepsLess Its (known own before) (known own' now) (stopped why)
-    asked-less result why is held went = ask-refused why (subst (λ (r : Result T JobActFault). AskHeld r) is held) went
+    pub asked-less : (result : Result T JobActFault) (why : JobActFault) (stop : PassFault) → result ≡ Err why → stop ≡ stopped why → AskHeld result → WentNone
+        → SweepsLess Its (known own before) (known own' now) stop
+    asked-less result why stop is stops held went =
+        subst (λ (f : PassFault). SweepsLess Its (known own before) (known own' now) f) (sym stops)
+        (ask-refused why (subst (λ (r : Result T JobActFault). AskHeld r) is held) went)
 
     -- what it says, of the book as it is now
     pub asked-says : (result : Result T JobActFault) (x : T) → result ≡ Ok x → AskHeld result → Says (book_of (trail_in now)) x

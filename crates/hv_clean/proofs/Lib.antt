@@ -7,6 +7,7 @@ pub mod Namings
 pub mod Turns
 pub mod Ended
 pub mod Forgets
+pub mod Came
 pub mod AloneJobs
 pub mod AloneIds
 pub mod AloneAll

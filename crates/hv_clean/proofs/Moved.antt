@@ -9,7 +9,7 @@ use Rattle.hv_history.specs.Lasting.{IsFront}
 use Rattle.hv_trail.specs.declared.trail.TrailItem.{TrailItem}
 use Rattle.hv_trail.specs.declared.trail.TrailItem.TheVariants.{Noted, Marked}
 use Rattle.hv_trail.specs.declared.trail.Mark.TheVariants.{Wrote, Went, Broke}
-use Rattle.hv_actor.specs.Acting.{AreRows, IsLater, Setting, Moment, among, numbers_from}
+use Rattle.hv_actor.specs.Acting.{AreRows, Setting, Moment, among, numbers_from}
 use Rattle.hv_actor.specs.Rows.{later_itself}
 use Rattle.hv_actor.proofs.Weaving.{went-more, went-itself, later-further}
 use Rattle.hv_base.specs.declared.ids.JobId.{JobId}
@@ -22,7 +22,7 @@ use Rattle.hv_job_acts.specs.Work.{ready_in}
 use Rattle.hv_clean.specs.declared.fault.PassFault.{PassFault}
 use Rattle.hv_clean.specs.declared.fault.PassFault.TheVariants as run
 use Rattle.hv_clean.specs.declared.fault.Swept.{Swept}
-use Rattle.hv_clean.specs.Passing.{one_more, count_cleaned, count_forgotten, count_fault, nothing, NoFault, IsSwept, IsPassed, swept_by, swept_all, Asks, Sweeps, SweepsLess, IsHeldAt, IsOver, last_table, lost_now, IsCleanedNow, LeftOf, CleansOne, CleanEach, IsForgottenNow, IsIdOver, IdLeft, ForgetsOne, ForgetEach, ForgetsTable, ids_of, ForgetTables, ForgetsAll, PassesRest, PassesOver, Passes}
+use Rattle.hv_clean.specs.Passing.{one_more, count_cleaned, count_forgotten, count_fault, nothing, NoFault, IsSwept, swept_by, swept_all, Asks, Sweeps, SweepsLess, IsHeldAt, IsOver, last_table, lost_now, IsCleanedNow, LeftOf, CleansOne, CleanEach, IsForgottenNow, IsIdOver, IdLeft, ForgetsOne, ForgetEach, ForgetsTable, ids_of, ForgetTables, ForgetsAll, PassesRest, PassesOver, Passes}
 
 -- ---- fronts
 
@@ -90,6 +90,12 @@ pub all-append : {A : Type 0} (P : A → Type 0) (xs ys : List A) → AllByRecur
 all-append P [] ys ps qs = qs
 all-append P (x ∷ xs) ys ps qs = (ps.0, all-append P xs ys ps.1 qs)
 
+-- a directory went, a call on files of nobody failed, or a job was cleaned, or an id forgotten
+abbrev pub IsPassed : TrailItem → Type 0
+IsPassed (Noted (entry.Cleaned job)) = Unit {0}
+IsPassed (Noted (entry.Forgot table write)) = Unit {0}
+IsPassed item = IsSwept item
+
 -- marks are items of a pass
 swept-passed : (item : TrailItem) → IsSwept item → IsPassed item
 swept-passed (Noted (entry.Boot run)) is = is
@@ -112,7 +118,7 @@ swept-passed (Noted (entry.Did txn statement wrote)) is = is
 swept-passed (Noted (entry.Alter txn table)) is = is
 swept-passed (Marked mark) is = is
 
-all-passed : (items : List TrailItem) → AllByRecursion IsSwept items → AllByRecursion IsPassed items
+pub all-passed : (items : List TrailItem) → AllByRecursion IsSwept items → AllByRecursion IsPassed items
 all-passed [] all = tt
 all-passed (item ∷ items) all = (swept-passed item all.0, all-passed items all.1)
 
@@ -203,17 +209,18 @@ module _ {D : Type 0} (told : D → Option Store) (faults : D → ℕ) (between 
 
   -- ---- where it ended
 
-  pub less-behind : (a b c : M) (why : PassFault) → Moves a b → SweepsLess S b c why → SweepsLess S a c why
-  less-behind a b c why f g = record {
-    items = f.items ++ g.items;
-    adds = adds-more a b c f.items g.items f.adds g.adds;
-    each = all-append IsPassed f.items g.items f.each g.each;
-    stops = g.stops;
+  pub less-behind : (a b c : M) (f t : Swept) (why : PassFault) → Sweeps S a b f t → SweepsLess S b c why → SweepsLess S a c why
+  less-behind a b c f t why s less = record {
+    items = s.items ++ less.items;
+    adds = adds-more a b c s.items less.items s.adds less.adds;
+    each = all-append IsSwept s.items less.items s.each less.each;
+    stops = less.stops;
+    full = less.full;
   }
 
   -- memory lacked, with nothing added
   pub less-lack : (a : M) → IsOpenHouse a.house → SweepsLess S a a run.NoMemory
-  less-lack a running = record { items = []; adds = adds-none a; each = tt; stops = running }
+  less-lack a running = record { items = []; adds = adds-none a; each = tt; stops = running; full = tt }
 
   -- ---- what was so between
 
@@ -381,9 +388,10 @@ module _ {D : Type 0} (told : D → Option Store) (faults : D → ℕ) (between 
 
   -- ---- by what a call answered
 
-  pub less-up : {T : Type 0} (a b c : M) (result : Result T PassFault) → Moves a b → IfErr result (SweepsLess S b c) → IfErr result (SweepsLess S a c)
-  less-up a b c (Ok x) moves less = tt
-  less-up a b c (Err why) moves less = less-behind a b c why moves less
+  pub less-up : {T : Type 0} (a b c : M) (f t : Swept) (result : Result T PassFault) → Sweeps S a b f t → IfErr result (SweepsLess S b c)
+      → IfErr result (SweepsLess S a c)
+  less-up a b c f t (Ok x) s less = tt
+  less-up a b c f t (Err why) s less = less-behind a b c f t why s less
 
   pub sweeps-ok : {T : Type 0} (a b c : M) (f m t : Swept) (result : Result T PassFault) → Sweeps S a b f m → IfOk result (λ x. Sweeps S b c m t)
       → IfOk result (λ x. Sweeps S a c f t)
@@ -433,11 +441,6 @@ module _ {D : Type 0} (told : D → Option Store) (faults : D → ℕ) (between 
   pass-ok a b c jobs (Ok t) asks is over =
       record { start = b; asks = asks; over = subst (λ (xs : List JobId). PassesOver S b c xs t) is over }
   pass-ok a b c jobs (Err why) asks is over = tt
-
-  pub pass-later : (a b c : M) (jobs : List JobId) (result : Result Swept PassFault) → Asks S a b → IfOk result (PassesOver S b c jobs)
-      → IfErr result (SweepsLess S b c) → IsLater faults (seen_in a.house) (seen_in c.house)
-  pass-later a b c jobs (Ok t) asks over less = (moves-then a b c (moves-asks a b asks) (moves-over b c jobs t over)).adds.later
-  pass-later a b c jobs (Err why) asks over less = (less-behind a b c why (moves-asks a b asks) less).adds.later
 
   pub pass-running : (b c : M) (jobs : List JobId) (result : Result Swept PassFault) → IfOk result (PassesOver S b c jobs)
       → IfOk result (λ swept. IsOpenHouse c.house)

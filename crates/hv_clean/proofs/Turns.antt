@@ -114,7 +114,8 @@ module _ {D : Type 0} (told : D → Option Store) (faults : D → ℕ) (between 
       pub remove-behind : (why : JobActFault) (from : Swept) → result ≡ Err why
           → BehindAs told faults between meanwhile goes_on (known own before) (known own' now) from (refusal_of why)
       remove-behind why from is =
-          behind-err told faults between meanwhile goes_on Removing own own' before now was from (Remove None dir) (remove-quietly dir) result why is held went
+          behind-err told faults between meanwhile goes_on Removing own own' before now was from (Remove None dir) (remove-quietly dir)
+          (λ seen entries so. absurd so.others) result why is held went
 
       pub remove-done : (from : Swept) → result ≡ Ok tt → Sweeps Its (known own before) (known own' now) from from
       remove-done from is =
@@ -173,13 +174,19 @@ module _ {D : Type 0} (told : D → Option Store) (faults : D → ℕ) (between 
 
 -- ---- removals, one behind the other
 
+pub head-of : (P : DirAt → Type 0) (x : DirAt) (before behind : List DirAt) → before ≡ x ∷ behind → AllByRecursion P before → P x
+head-of P x before behind is all = (subst (AllByRecursion P) is all).0
+
+pub tail-of : (P : DirAt → Type 0) (x : DirAt) (before behind : List DirAt) → before ≡ x ∷ behind → AllByRecursion P before → AllByRecursion P behind
+tail-of P x before behind is all = (subst (AllByRecursion P) is all).1
+
+-- those that are left are still to go
+abbrev pub WentRest : List TrailItem → List DirAt → List DirAt → Removal → Type 0
+WentRest trail rest all removal =
+    removal ≡ removed.All → (later : List TrailItem) → IsFront trail later → AllByRecursion (HasGone later) rest → AllByRecursion (HasGone later) all
+
 module _ {D : Type 0} (told : D → Option Store) (faults : D → ℕ) (between : List TrailItem → Type 0)
     (meanwhile : ToldHouse D → ToldHouse D → Type 0) (job : JobId) where
-  -- those that are left are still to go
-  abbrev pub WentRest : List TrailItem → List DirAt → List DirAt → Removal → Type 0
-  WentRest trail rest all removal =
-      removal ≡ removed.All → (later : List TrailItem) → IsFront trail later → AllByRecursion (HasGone later) rest → AllByRecursion (HasGone later) all
-
   pub record RemovesUpTo (a b : Moment (ToldHouse D)) (all rest : List DirAt) (f t : Swept) (removal : Removal) : Type 0 where
     pub sweeps : Sweeps (among told faults between meanwhile) a b f t
     pub covered : AreCoveredDirs (trail_in b.house) job rest
@@ -224,12 +231,6 @@ module _ {D : Type 0} (told : D → Option Store) (faults : D → ℕ) (between 
   joined-all first removed.Left is = cc
   joined-all first removed.Held is = cc
   joined-all first removed.Over is = cc
-
-  pub head-of : (P : DirAt → Type 0) (x : DirAt) (before behind : List DirAt) → before ≡ x ∷ behind → AllByRecursion P before → P x
-  head-of P x before behind is all = (subst (AllByRecursion P) is all).0
-
-  pub tail-of : (P : DirAt → Type 0) (x : DirAt) (before behind : List DirAt) → before ≡ x ∷ behind → AllByRecursion P before → AllByRecursion P behind
-  tail-of P x before behind is all = (subst (AllByRecursion P) is all).1
 
   pub up-first : (a b : M) (all before behind : List DirAt) (dir : DirAt) (f m : Swept) (removal : Removal) → before ≡ dir ∷ behind
       → RemovesUpTo told faults between meanwhile job a b all before f m removal → IsCoveredFor (trail_in b.house) job dir

@@ -3,6 +3,7 @@
 use Rattle.std.specs.Prelude.{if◌then◌else◌, ◌≡◌, ◌×◌, ◌⊎◌, ◌<◌, nat_lt, ◌-◌, ◌^◌, ℕ, ◌+◌, true, false, None, List, [], ◌∷◌, ◌++◌, filter, ◌==◌, Bool}
 use Rattle.std.specs.List.{AllByRecursion}
 use Rattle.hv_base.specs.declared.ids.JobId.{JobId}
+use Rattle.hv_history.specs.declared.entry.Entry.{Entry}
 use Rattle.hv_history.specs.declared.entry.Entry.TheVariants as entry
 use Rattle.hv_history.specs.State.{Job, state_of}
 use Rattle.hv_history.specs.Legal.{profile}
@@ -18,6 +19,7 @@ use Rattle.hv_actor.specs.Acting.{Setting, Moment, numbers_from}
 use Rattle.hv_job_acts.specs.hv_acts.specs.declared.told.ToldHouse.{ToldHouse}
 use Rattle.hv_job_acts.specs.hv_acts.specs.Told.{trail_in, book_in}
 use Rattle.hv_job_acts.specs.hv_acts.specs.Going.{IsOpenHouse}
+use Rattle.hv_job_acts.specs.hv_acts.specs.hv_telling.specs.hv_house.specs.Calls.{LacksRoom}
 use Rattle.hv_job_acts.specs.hv_job_calls.specs.Refusals.{HasGoneJob, IsHeldBy, IfLive, CanForget, is_live_in}
 use Rattle.hv_job_acts.specs.declared.asking.LostId.{LostId}
 use Rattle.hv_job_acts.specs.Going.{AddsItems, IsShutFor, WasAt}
@@ -61,12 +63,6 @@ IsSwept (Marked (Went dir)) = Unit {0}
 IsSwept (Marked (Broke None put count)) = put ≡ false
 IsSwept item = ⊥
 
--- or a job was cleaned, or an id forgotten
-abbrev pub IsPassed : TrailItem → Type 0
-IsPassed (Noted (entry.Cleaned job)) = Unit {0}
-IsPassed (Noted (entry.Forgot table write)) = Unit {0}
-IsPassed item = IsSwept item
-
 -- what the marks add to the counts
 abbrev pub swept_by : Swept → TrailItem → Swept
 swept_by swept (Marked (Broke by put count)) = count_fault swept
@@ -84,6 +80,11 @@ IsCleaning (Remove None dir) = Unit {0}
 IsCleaning (Read None) = Unit {0}
 IsCleaning call = ⊥
 
+-- where it stops for want of room, there is none for one more of the load
+abbrev pub IsFullFor : List Entry → PassFault → Type 0
+IsFullFor book (run.Full entries) = LacksRoom profile book 1 entries
+IsFullFor book why = Unit {0}
+
 abbrev pub RunsOut : {D : Type 0} → Setting D (ToldHouse D) → ToldHouse D → PassFault → Type 0
 RunsOut setting now run.Store = IsShutFor setting IsCleaning now
 RunsOut setting now (run.Full entries) = IsOpenHouse now
@@ -100,13 +101,14 @@ pub record Sweeps {D : Type 0} (setting : Setting D (ToldHouse D)) (before now :
   pub counts : to ≡ swept_all from items
   pub running : IsOpenHouse now.house
 
--- they added these, and the pass ends
+-- they added such marks, and the pass ends
 pub record SweepsLess {D : Type 0} (setting : Setting D (ToldHouse D)) (before now : Moment (ToldHouse D))
     (why : PassFault) : Type 0 where
   pub items : List TrailItem
   pub adds : AddsItems setting.faults setting.between before now items
-  pub each : AllByRecursion IsPassed items
+  pub each : AllByRecursion IsSwept items
   pub stops : RunsOut setting now.house why
+  pub full : IsFullFor (book_in now.house) why
 
 -- they added nothing
 pub record Asks {D : Type 0} (setting : Setting D (ToldHouse D)) (before now : Moment (ToldHouse D)) : Type 0 where

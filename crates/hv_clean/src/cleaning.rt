@@ -5,6 +5,7 @@ ghost use Rattle.hv_actor.specs.Acting.{among, known};
 ghost use Rattle.hv_job_acts.specs.hv_acts.specs.Told.{trail_in};
 ghost use Rattle.hv_job_acts.specs.hv_acts.specs.Going.{IsOpenHouse};
 ghost use Rattle.hv_clean.specs.Passing.{Sweeps, SweepsLess, CleansOne, CleanEach};
+ghost use Rattle.hv_clean.specs.Fronts.{CleansFront, StopsBehind};
 ghost use Rattle.hv_clean.specs.Removing.{IsKnown, AreKnown, IsCoveredFor, AreCoveredDirs, joined, ends, counted_held, removal_by, WentBy, RemovalSays, EndsTurn};
 ghost use Rattle.hv_clean.specs.declared.cleaning.Removal.TheVariants as removed;
 
@@ -247,7 +248,8 @@ pub(crate) fn clean_jobs<D: Shelf + Drop, W: Actor<D, ToldHouse<D>>>(
     ensures cleans { IfOk result (λ _. CleanEach (among D.told D.faults W.between W.meanwhile)
         (known (W.own actor.old) (W.house actor.old)) (known (W.own actor.new) (W.house actor.new))
         jobs.now swept.old swept.new) }
-    ensures less { IfErr result (SweepsLess (among D.told D.faults W.between W.meanwhile)
+    ensures less { IfErr result (StopsBehind (among D.told D.faults W.between W.meanwhile)
+        (CleansFront (among D.told D.faults W.between W.meanwhile) jobs.now swept.old)
         (known (W.own actor.old) (W.house actor.old)) (known (W.own actor.new) (W.house actor.new))) }
 {
     for job in jobs {

@@ -5,6 +5,7 @@ ghost use Rattle.hv_actor.specs.Acting.{among, known, numbers_from};
 ghost use Rattle.hv_job_acts.specs.hv_acts.specs.Told.{trail_in};
 ghost use Rattle.hv_job_acts.specs.hv_acts.specs.Going.{IsOpenHouse};
 ghost use Rattle.hv_clean.specs.Passing.{Sweeps, SweepsLess, ForgetsOne, ForgetEach, is_of_table, ids_of, ForgetsTable, ForgetTables, last_table, ForgetsAll};
+ghost use Rattle.hv_clean.specs.Fronts.{ForgetsFront, TablesFront, IdsFront, StopsBehind};
 ghost use Rattle.hv_clean.specs.Removing.{IsLost, AreLostDirs, AreLost, counted_id, not_listed, is_any_of, IsListedBy, ForgetsFound};
 
 use crate::dirs::lost_dirs;
@@ -256,7 +257,8 @@ fn forget_listed<D: Shelf + Drop, W: Actor<D, ToldHouse<D>>>(
     ensures forgets { IfOk result (λ _. ForgetEach (among D.told D.faults W.between W.meanwhile)
         (known (W.own actor.old) (W.house actor.old)) (known (W.own actor.new) (W.house actor.new))
         (ids_of table ids.now) swept.old swept.new) }
-    ensures less { IfErr result (SweepsLess (among D.told D.faults W.between W.meanwhile)
+    ensures less { IfErr result (StopsBehind (among D.told D.faults W.between W.meanwhile)
+        (ForgetsFront (among D.told D.faults W.between W.meanwhile) (ids_of table ids.now) swept.old)
         (known (W.own actor.old) (W.house actor.old)) (known (W.own actor.new) (W.house actor.new))) }
 {
     for id in ids {
@@ -283,7 +285,8 @@ fn forget_found<D: Shelf + Drop, W: Actor<D, ToldHouse<D>>>(
     ensures forgets { IfOk result (λ _. ForgetsFound (among D.told D.faults W.between W.meanwhile)
         (known (W.own actor.old) (W.house actor.old)) (known (W.own actor.new) (W.house actor.new))
         (ids_of table ids.now) found swept.old swept.new) }
-    ensures less { IfErr result (SweepsLess (among D.told D.faults W.between W.meanwhile)
+    ensures less { IfErr result (StopsBehind (among D.told D.faults W.between W.meanwhile)
+        (ForgetsFront (among D.told D.faults W.between W.meanwhile) (ids_of table ids.now) swept.old)
         (known (W.own actor.old) (W.house actor.old)) (known (W.own actor.new) (W.house actor.new))) }
 {
     match found {
@@ -307,7 +310,8 @@ fn forget_table<D: Shelf + Drop, W: Actor<D, ToldHouse<D>>>(
     ensures forgets { IfOk result (λ _. ForgetsTable (among D.told D.faults W.between W.meanwhile)
         (known (W.own actor.old) (W.house actor.old)) (known (W.own actor.new) (W.house actor.new))
         (ids_of table ids.now) swept.old swept.new) }
-    ensures less { IfErr result (SweepsLess (among D.told D.faults W.between W.meanwhile)
+    ensures less { IfErr result (StopsBehind (among D.told D.faults W.between W.meanwhile)
+        (ForgetsFront (among D.told D.faults W.between W.meanwhile) (ids_of table ids.now) swept.old)
         (known (W.own actor.old) (W.house actor.old)) (known (W.own actor.new) (W.house actor.new))) }
 {
     if !is_any_of(ids, table) {
@@ -334,7 +338,8 @@ fn forget_each<D: Shelf + Drop, W: Actor<D, ToldHouse<D>>>(
     ensures forgets { IfOk result (λ _. ForgetTables (among D.told D.faults W.between W.meanwhile)
         (known (W.own actor.old) (W.house actor.old)) (known (W.own actor.new) (W.house actor.new))
         (numbers_from 1 tables) ids.now swept.old swept.new) }
-    ensures less { IfErr result (SweepsLess (among D.told D.faults W.between W.meanwhile)
+    ensures less { IfErr result (StopsBehind (among D.told D.faults W.between W.meanwhile)
+        (TablesFront (among D.told D.faults W.between W.meanwhile) (numbers_from 1 tables) ids.now swept.old)
         (known (W.own actor.old) (W.house actor.old)) (known (W.own actor.new) (W.house actor.new))) }
 {
     for i in 0..tables {
@@ -370,7 +375,8 @@ pub(crate) fn forget_all<D: Shelf + Drop, W: Actor<D, ToldHouse<D>>>(
     ensures forgets { IfOk result (λ _. ForgetsAll (among D.told D.faults W.between W.meanwhile)
         (known (W.own actor.old) (W.house actor.old)) (known (W.own actor.new) (W.house actor.new))
         swept.old swept.new) }
-    ensures less { IfErr result (SweepsLess (among D.told D.faults W.between W.meanwhile)
+    ensures less { IfErr result (StopsBehind (among D.told D.faults W.between W.meanwhile)
+        (IdsFront (among D.told D.faults W.between W.meanwhile) swept.old)
         (known (W.own actor.old) (W.house actor.old)) (known (W.own actor.new) (W.house actor.new))) }
 {
     match actor.hold(alloc, AskBook { question: Lost }) {

@@ -5,6 +5,7 @@ ghost use Rattle.hv_actor.specs.Acting.{IsLater, among, known};
 ghost use Rattle.hv_job_acts.specs.hv_acts.specs.Told.{seen_in, trail_in};
 ghost use Rattle.hv_job_acts.specs.hv_acts.specs.Going.{IsOpenHouse};
 ghost use Rattle.hv_clean.specs.Passing.{Sweeps, SweepsLess, PassesRest, PassesOver, Passes};
+ghost use Rattle.hv_clean.specs.Fronts.{RestFront, OverFront, PassFront, StopsBehind};
 ghost use Rattle.hv_clean.specs.Removing.{AreKnown};
 
 use crate::cleaning::clean_jobs;
@@ -53,7 +54,8 @@ fn pass_rest<D: Shelf + Drop, W: Actor<D, ToldHouse<D>>>(
     ensures passes { IfOk result (PassesRest (among D.told D.faults W.between W.meanwhile)
         (known (W.own actor.old) (W.house actor.old)) (known (W.own actor.new) (W.house actor.new))
         before) }
-    ensures less { IfErr result (SweepsLess (among D.told D.faults W.between W.meanwhile)
+    ensures less { IfErr result (StopsBehind (among D.told D.faults W.between W.meanwhile)
+        (RestFront (among D.told D.faults W.between W.meanwhile) before)
         (known (W.own actor.old) (W.house actor.old)) (known (W.own actor.new) (W.house actor.new))) }
 {
     let mut swept = before;
@@ -76,7 +78,8 @@ fn pass_over<D: Shelf + Drop, W: Actor<D, ToldHouse<D>>>(
     ensures passes { IfOk result (PassesOver (among D.told D.faults W.between W.meanwhile)
         (known (W.own actor.old) (W.house actor.old)) (known (W.own actor.new) (W.house actor.new))
         jobs.now) }
-    ensures less { IfErr result (SweepsLess (among D.told D.faults W.between W.meanwhile)
+    ensures less { IfErr result (StopsBehind (among D.told D.faults W.between W.meanwhile)
+        (OverFront (among D.told D.faults W.between W.meanwhile) jobs.now)
         (known (W.own actor.old) (W.house actor.old)) (known (W.own actor.new) (W.house actor.new))) }
 {
     let mut swept = NOTHING;
@@ -106,7 +109,8 @@ pub fn clean_pass<D: Shelf + Drop, W: Actor<D, ToldHouse<D>>>(
     ensures running { IfOk result (λ _. IsOpenHouse (W.house actor.new)) }
     ensures passes { IfOk result (Passes (among D.told D.faults W.between W.meanwhile)
         (known (W.own actor.old) (W.house actor.old)) (known (W.own actor.new) (W.house actor.new))) }
-    ensures less { IfErr result (SweepsLess (among D.told D.faults W.between W.meanwhile)
+    ensures less { IfErr result (StopsBehind (among D.told D.faults W.between W.meanwhile)
+        (PassFront (among D.told D.faults W.between W.meanwhile))
         (known (W.own actor.old) (W.house actor.old)) (known (W.own actor.new) (W.house actor.new))) }
 {
     match actor.hold(alloc, AskBook { question: Ready }) {

@@ -8,7 +8,7 @@ use Rattle.hv_job_acts.specs.hv_acts.specs.Told.{trail_in}
 use Rattle.hv_job_acts.specs.Covering.{AreNamesOf}
 use Rattle.hv_job_acts.specs.Work.{AreCovered}
 use Rattle.hv_clean.proofs.Holds.{asked-so, asked-less, asked-says}
-use Rattle.hv_clean.proofs.Moved.{less-behind, less-up, moves-asks, moves-then, moves-sweeps, moves-front}
+use Rattle.hv_clean.proofs.Moved.{less-behind, less-up, asks-sweeps, sweeps-then, moves-asks, moves-front}
 use Rattle.hv_clean.proofs.Lasts.{known-lasts}
 use Rattle.hv_clean.proofs.Ended.{fits-in, may-go, turn-ok}
 use Rattle.std.specs.Prelude.{Result}
@@ -24,7 +24,7 @@ pub returns-in-Err-clause-less : goal.returns-in-Err-clause-less
 returns-in-Err-clause-less g c =
     asked-less g.D.Shelf.told g.D.Shelf.faults g.W.Actor.between g.W.Actor.meanwhile g.met.W.Actor.goes_on (λ (book : List Entry) (dirs : Vec DirAt). (j : Job) → numbered (state_of book).jobs c.args.job.0 ≡ Some j → AreNamesOf (state_of book) j
     → AreCovered (state_of book) j dirs.items)
-    (g.W.Actor.own c.args.actor.now) (g.W.Actor.own c.hold.new.self) (g.W.Actor.house c.args.actor.now) (g.W.Actor.house c.hold.new.self) c.requires.running c.hold.result c.in-Err.why c.in-Err.is c.hold.ensures.held c.hold.ensures.went
+    (g.W.Actor.own c.args.actor.now) (g.W.Actor.own c.hold.new.self) (g.W.Actor.house c.args.actor.now) (g.W.Actor.house c.hold.new.self) c.requires.running c.hold.result c.in-Err.why c.stopped.result c.in-Err.is c.stopped.ensures c.hold.ensures.held c.hold.ensures.went
 
 pub remove_each-requires : goal.remove_each-requires
 remove_each-requires g c =
@@ -42,30 +42,26 @@ remove_each-requires g c =
           → AreCovered (state_of book) j dirs.items) (g.W.Actor.own c.args.actor.now) (g.W.Actor.own c.hold.new.self) (g.W.Actor.house c.args.actor.now) (g.W.Actor.house c.hold.new.self) c.requires.running c.hold.result c.in-Ok.dirs c.in-Ok.is c.hold.ensures.held);
     }
 
-pub returns-clause-cleans : goal.returns-clause-cleans
-returns-clause-cleans g c =
+pub returns-in-Ok-remove_each-clause-cleans : goal.returns-in-Ok-remove_each-clause-cleans
+returns-in-Ok-remove_each-clause-cleans g c =
     turn-ok g.D.Shelf.told g.D.Shelf.faults g.W.Actor.between g.met.W.Actor.rows g.W.Actor.meanwhile g.met.W.Actor.goes_on c.args.job (known (g.W.Actor.own c.args.actor.now) (g.W.Actor.house c.args.actor.now)) (known (g.W.Actor.own c.hold.new.self) (g.W.Actor.house c.hold.new.self)) (known (g.W.Actor.own c.remove_each.new.actor) (g.W.Actor.house c.remove_each.new.actor)) (known (g.W.Actor.own c.end_turn.new.actor) (g.W.Actor.house c.end_turn.new.actor))
     c.in-Ok.dirs.items c.args.swept.now c.remove_each.new.swept c.end_turn.new.swept
     (asked-so g.D.Shelf.told g.D.Shelf.faults g.W.Actor.between g.W.Actor.meanwhile g.met.W.Actor.goes_on (λ (seen : HouseSeen g.D) (r : Result _ _). AnswersSo (λ (book : List Entry) (dirs : Vec DirAt). (j : Job) → numbered (state_of book).jobs c.args.job.0 ≡ Some j → AreNamesOf (state_of book) j
     → AreCovered (state_of book) j dirs.items) (book_of seen.trail) r)
     (g.W.Actor.own c.args.actor.now) (g.W.Actor.own c.hold.new.self) (g.W.Actor.house c.args.actor.now) (g.W.Actor.house c.hold.new.self) c.in-Ok.dirs c.hold.result c.in-Ok.is c.hold.ensures.held c.hold.ensures.went)
-    c.in-Ok-2.ensures.sweeps (g.met.W.Actor.kept c.hold.new.self c.hold.ensures.keeps) (g.met.W.Actor.kept c.remove_each.new.actor c.remove_each.ensures.keeps)
+    c.in-Ok-remove_each.ensures.sweeps (g.met.W.Actor.kept c.hold.new.self c.hold.ensures.keeps) (g.met.W.Actor.kept c.remove_each.new.actor c.remove_each.ensures.keeps)
     (asked-says g.D.Shelf.told g.D.Shelf.faults g.W.Actor.between g.W.Actor.meanwhile g.met.W.Actor.goes_on (λ (book : List Entry) (dirs : Vec DirAt). (j : Job) → numbered (state_of book).jobs c.args.job.0 ≡ Some j → AreNamesOf (state_of book) j
     → AreCovered (state_of book) j dirs.items) (g.W.Actor.own c.args.actor.now) (g.W.Actor.own c.hold.new.self) (g.W.Actor.house c.args.actor.now) (g.W.Actor.house c.hold.new.self) c.requires.running c.hold.result c.in-Ok.dirs c.in-Ok.is c.hold.ensures.held)
-    c.in-Ok-2.removal c.end_turn.result c.in-Ok-2.ensures.went c.in-Ok-2.ensures.says c.end_turn.ensures.ends
+    c.in-Ok-remove_each.removal c.end_turn.result c.in-Ok-remove_each.ensures.went c.in-Ok-remove_each.ensures.says c.end_turn.ensures.ends
 
-pub returns-clause-less : goal.returns-clause-less
-returns-clause-less g c =
-    less-up g.D.Shelf.told g.D.Shelf.faults g.W.Actor.between g.met.W.Actor.rows g.W.Actor.meanwhile (known (g.W.Actor.own c.args.actor.now) (g.W.Actor.house c.args.actor.now)) (known (g.W.Actor.own c.remove_each.new.actor) (g.W.Actor.house c.remove_each.new.actor)) (known (g.W.Actor.own c.end_turn.new.actor) (g.W.Actor.house c.end_turn.new.actor)) c.end_turn.result
-    (moves-then g.D.Shelf.told g.D.Shelf.faults g.W.Actor.between g.met.W.Actor.rows g.W.Actor.meanwhile (known (g.W.Actor.own c.args.actor.now) (g.W.Actor.house c.args.actor.now)) (known (g.W.Actor.own c.hold.new.self) (g.W.Actor.house c.hold.new.self)) (known (g.W.Actor.own c.remove_each.new.actor) (g.W.Actor.house c.remove_each.new.actor))
-    (moves-asks g.D.Shelf.told g.D.Shelf.faults g.W.Actor.between g.met.W.Actor.rows g.W.Actor.meanwhile (known (g.W.Actor.own c.args.actor.now) (g.W.Actor.house c.args.actor.now)) (known (g.W.Actor.own c.hold.new.self) (g.W.Actor.house c.hold.new.self)) (asked-so g.D.Shelf.told g.D.Shelf.faults g.W.Actor.between g.W.Actor.meanwhile g.met.W.Actor.goes_on (λ (seen : HouseSeen g.D) (r : Result _ _). AnswersSo (λ (book : List Entry) (dirs : Vec DirAt). (j : Job) → numbered (state_of book).jobs c.args.job.0 ≡ Some j → AreNamesOf (state_of book) j
+pub returns-in-Ok-remove_each-clause-less : goal.returns-in-Ok-remove_each-clause-less
+returns-in-Ok-remove_each-clause-less g c =
+    less-up g.D.Shelf.told g.D.Shelf.faults g.W.Actor.between g.met.W.Actor.rows g.W.Actor.meanwhile (known (g.W.Actor.own c.args.actor.now) (g.W.Actor.house c.args.actor.now)) (known (g.W.Actor.own c.remove_each.new.actor) (g.W.Actor.house c.remove_each.new.actor)) (known (g.W.Actor.own c.end_turn.new.actor) (g.W.Actor.house c.end_turn.new.actor)) c.args.swept.now c.remove_each.new.swept c.end_turn.result (sweeps-then g.D.Shelf.told g.D.Shelf.faults g.W.Actor.between g.met.W.Actor.rows g.W.Actor.meanwhile (known (g.W.Actor.own c.args.actor.now) (g.W.Actor.house c.args.actor.now)) (known (g.W.Actor.own c.hold.new.self) (g.W.Actor.house c.hold.new.self)) (known (g.W.Actor.own c.remove_each.new.actor) (g.W.Actor.house c.remove_each.new.actor)) c.args.swept.now c.args.swept.now c.remove_each.new.swept (asks-sweeps g.D.Shelf.told g.D.Shelf.faults g.W.Actor.between g.met.W.Actor.rows g.W.Actor.meanwhile (known (g.W.Actor.own c.args.actor.now) (g.W.Actor.house c.args.actor.now)) (known (g.W.Actor.own c.hold.new.self) (g.W.Actor.house c.hold.new.self)) c.args.swept.now (asked-so g.D.Shelf.told g.D.Shelf.faults g.W.Actor.between g.W.Actor.meanwhile g.met.W.Actor.goes_on (λ (seen : HouseSeen g.D) (r : Result _ _). AnswersSo (λ (book : List Entry) (dirs : Vec DirAt). (j : Job) → numbered (state_of book).jobs c.args.job.0 ≡ Some j → AreNamesOf (state_of book) j
     → AreCovered (state_of book) j dirs.items) (book_of seen.trail) r)
-    (g.W.Actor.own c.args.actor.now) (g.W.Actor.own c.hold.new.self) (g.W.Actor.house c.args.actor.now) (g.W.Actor.house c.hold.new.self) c.in-Ok.dirs c.hold.result c.in-Ok.is c.hold.ensures.held c.hold.ensures.went))
-    (moves-sweeps g.D.Shelf.told g.D.Shelf.faults g.W.Actor.between g.met.W.Actor.rows g.W.Actor.meanwhile (known (g.W.Actor.own c.hold.new.self) (g.W.Actor.house c.hold.new.self)) (known (g.W.Actor.own c.remove_each.new.actor) (g.W.Actor.house c.remove_each.new.actor)) c.args.swept.now c.remove_each.new.swept c.in-Ok-2.ensures.sweeps)) c.end_turn.ensures.less
+    (g.W.Actor.own c.args.actor.now) (g.W.Actor.own c.hold.new.self) (g.W.Actor.house c.args.actor.now) (g.W.Actor.house c.hold.new.self) c.in-Ok.dirs c.hold.result c.in-Ok.is c.hold.ensures.held c.hold.ensures.went)) c.in-Ok-remove_each.ensures.sweeps) c.end_turn.ensures.less
 
-pub returns-in-Err-2-clause-less : goal.returns-in-Err-2-clause-less
-returns-in-Err-2-clause-less g c =
-    less-behind g.D.Shelf.told g.D.Shelf.faults g.W.Actor.between g.met.W.Actor.rows g.W.Actor.meanwhile (known (g.W.Actor.own c.args.actor.now) (g.W.Actor.house c.args.actor.now)) (known (g.W.Actor.own c.hold.new.self) (g.W.Actor.house c.hold.new.self)) (known (g.W.Actor.own c.remove_each.new.actor) (g.W.Actor.house c.remove_each.new.actor)) c.in-Err.why
-    (moves-asks g.D.Shelf.told g.D.Shelf.faults g.W.Actor.between g.met.W.Actor.rows g.W.Actor.meanwhile (known (g.W.Actor.own c.args.actor.now) (g.W.Actor.house c.args.actor.now)) (known (g.W.Actor.own c.hold.new.self) (g.W.Actor.house c.hold.new.self)) (asked-so g.D.Shelf.told g.D.Shelf.faults g.W.Actor.between g.W.Actor.meanwhile g.met.W.Actor.goes_on (λ (seen : HouseSeen g.D) (r : Result _ _). AnswersSo (λ (book : List Entry) (dirs : Vec DirAt). (j : Job) → numbered (state_of book).jobs c.args.job.0 ≡ Some j → AreNamesOf (state_of book) j
+pub returns-in-Err-remove_each-clause-less : goal.returns-in-Err-remove_each-clause-less
+returns-in-Err-remove_each-clause-less g c =
+    less-behind g.D.Shelf.told g.D.Shelf.faults g.W.Actor.between g.met.W.Actor.rows g.W.Actor.meanwhile (known (g.W.Actor.own c.args.actor.now) (g.W.Actor.house c.args.actor.now)) (known (g.W.Actor.own c.hold.new.self) (g.W.Actor.house c.hold.new.self)) (known (g.W.Actor.own c.remove_each.new.actor) (g.W.Actor.house c.remove_each.new.actor)) c.args.swept.now c.args.swept.now c.in-Err-remove_each.why (asks-sweeps g.D.Shelf.told g.D.Shelf.faults g.W.Actor.between g.met.W.Actor.rows g.W.Actor.meanwhile (known (g.W.Actor.own c.args.actor.now) (g.W.Actor.house c.args.actor.now)) (known (g.W.Actor.own c.hold.new.self) (g.W.Actor.house c.hold.new.self)) c.args.swept.now (asked-so g.D.Shelf.told g.D.Shelf.faults g.W.Actor.between g.W.Actor.meanwhile g.met.W.Actor.goes_on (λ (seen : HouseSeen g.D) (r : Result _ _). AnswersSo (λ (book : List Entry) (dirs : Vec DirAt). (j : Job) → numbered (state_of book).jobs c.args.job.0 ≡ Some j → AreNamesOf (state_of book) j
     → AreCovered (state_of book) j dirs.items) (book_of seen.trail) r)
-    (g.W.Actor.own c.args.actor.now) (g.W.Actor.own c.hold.new.self) (g.W.Actor.house c.args.actor.now) (g.W.Actor.house c.hold.new.self) c.in-Ok.dirs c.hold.result c.in-Ok.is c.hold.ensures.held c.hold.ensures.went)) c.in-Err.ensures.less
+    (g.W.Actor.own c.args.actor.now) (g.W.Actor.own c.hold.new.self) (g.W.Actor.house c.args.actor.now) (g.W.Actor.house c.hold.new.self) c.in-Ok.dirs c.hold.result c.in-Ok.is c.hold.ensures.held c.hold.ensures.went)) c.in-Err-remove_each.ensures.less

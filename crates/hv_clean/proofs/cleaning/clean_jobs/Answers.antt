@@ -5,7 +5,8 @@ use Rattle.hv_base.specs.declared.ids.JobId.{JobId}
 use Rattle.hv_actor.specs.Acting.{among}
 use Rattle.hv_job_acts.specs.hv_acts.specs.Told.{trail_in}
 use Rattle.hv_clean.specs.Passing.{CleanEach}
-use Rattle.hv_clean.proofs.Moved.{sweeps-none, each-more, moves-each, moves-one, moves-front, less-behind}
+use Rattle.hv_clean.proofs.Moved.{sweeps-none, each-more, moves-one, moves-front}
+use Rattle.hv_clean.proofs.Came.{jobs-stop}
 use Rattle.hv_clean.proofs.Lasts.{all-known}
 use Rattle.hv_clean.proofs.Forgets.{known-at}
 use Rattle.hv_clean.proofs.cleaning.clean_jobs.Goals as goal
@@ -24,9 +25,7 @@ clean_job-requires-clause-there g c =
 
 pub returns-in-Err-clause-less : goal.returns-in-Err-clause-less
 returns-in-Err-clause-less g c =
-    less-behind g.D.Shelf.told g.D.Shelf.faults g.W.Actor.between g.met.W.Actor.rows g.W.Actor.meanwhile (known (g.W.Actor.own c.args.actor.now) (g.W.Actor.house c.args.actor.now)) (known (g.W.Actor.own c.loop-job.actor) (g.W.Actor.house c.loop-job.actor)) (known (g.W.Actor.own c.clean_job.new.actor) (g.W.Actor.house c.clean_job.new.actor)) c.in-Err.why
-    (moves-each g.D.Shelf.told g.D.Shelf.faults g.W.Actor.between g.met.W.Actor.rows g.W.Actor.meanwhile (known (g.W.Actor.own c.args.actor.now) (g.W.Actor.house c.args.actor.now)) (known (g.W.Actor.own c.loop-job.actor) (g.W.Actor.house c.loop-job.actor)) (take c.loop-job.job-index c.args.jobs.now) c.args.swept.now c.loop-job.swept c.loop-job.invariant.3)
-    c.in-Err.ensures.less
+    jobs-stop g.D.Shelf.told g.D.Shelf.faults g.W.Actor.between g.met.W.Actor.rows g.W.Actor.meanwhile (known (g.W.Actor.own c.args.actor.now) (g.W.Actor.house c.args.actor.now)) (known (g.W.Actor.own c.loop-job.actor) (g.W.Actor.house c.loop-job.actor)) (known (g.W.Actor.own c.clean_job.new.actor) (g.W.Actor.house c.clean_job.new.actor)) c.args.jobs.now c.loop-job.job-index c.args.swept.now c.loop-job.swept c.in-Err.why c.loop-job.invariant.3 c.in-Err.ensures.less
 
 pub loop-job-preserved : goal.loop-job-preserved
 loop-job-preserved g c =

@@ -3,7 +3,7 @@ use Rattle.std.proofs.Common.{rules, sym, ◌∙◌, ap, subst}
 use Rattle.hv_clean.specs.declared.cleaning.Removal.{Removal}
 use Rattle.hv_clean.specs.Removing.{ends, RemovalSays}
 use Rattle.hv_job_acts.specs.hv_acts.specs.Told.{trail_in}
-use Rattle.hv_clean.proofs.Moved.{less-behind, moves-sweeps}
+use Rattle.hv_clean.proofs.Moved.{less-behind}
 use Rattle.hv_clean.proofs.Turns.{RemovesUpTo, up-none, up-first, up-sweeps, up-says, up-ends, up-more, up-end, empty-rest}
 use Rattle.hv_clean.proofs.cleaning.remove_each.Goals as goal
 
@@ -24,8 +24,7 @@ remove_one-requires g c = record {
 
 pub returns-in-Err-clause-less : goal.returns-in-Err-clause-less
 returns-in-Err-clause-less g c =
-    less-behind g.D.Shelf.told g.D.Shelf.faults g.W.Actor.between g.met.W.Actor.rows g.W.Actor.meanwhile (known (g.W.Actor.own c.args.actor.now) (g.W.Actor.house c.args.actor.now)) (known (g.W.Actor.own c.loop-dir.actor) (g.W.Actor.house c.loop-dir.actor)) (known (g.W.Actor.own c.remove_one.new.actor) (g.W.Actor.house c.remove_one.new.actor)) c.in-Err.why
-    (moves-sweeps g.D.Shelf.told g.D.Shelf.faults g.W.Actor.between g.met.W.Actor.rows g.W.Actor.meanwhile (known (g.W.Actor.own c.args.actor.now) (g.W.Actor.house c.args.actor.now)) (known (g.W.Actor.own c.loop-dir.actor) (g.W.Actor.house c.loop-dir.actor)) c.args.swept.now c.loop-dir.swept c.loop-dir.invariant.1.sweeps) c.in-Err.ensures.less
+    less-behind g.D.Shelf.told g.D.Shelf.faults g.W.Actor.between g.met.W.Actor.rows g.W.Actor.meanwhile (known (g.W.Actor.own c.args.actor.now) (g.W.Actor.house c.args.actor.now)) (known (g.W.Actor.own c.loop-dir.actor) (g.W.Actor.house c.loop-dir.actor)) (known (g.W.Actor.own c.remove_one.new.actor) (g.W.Actor.house c.remove_one.new.actor)) c.args.swept.now c.loop-dir.swept c.in-Err.why c.loop-dir.invariant.1.sweeps c.in-Err.ensures.less
 
 pub returns-then-ends-clause-sweeps : goal.returns-then-ends-clause-sweeps
 returns-then-ends-clause-sweeps g c =

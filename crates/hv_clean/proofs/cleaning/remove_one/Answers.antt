@@ -25,27 +25,27 @@ returns-in-Ok-clause-went g c =
     remove-went g.D.Shelf.told g.D.Shelf.faults g.W.Actor.between g.W.Actor.meanwhile g.met.W.Actor.goes_on c.args.job c.args.dir (g.W.Actor.own c.args.actor.now) (g.W.Actor.own c.hold.new.self) (g.W.Actor.house c.args.actor.now) (g.W.Actor.house c.hold.new.self) c.requires.running
     c.hold.result c.hold.ensures.held c.hold.ensures.went c.in-Ok.is
 
-pub returns-clause-sweeps : goal.returns-clause-sweeps
-returns-clause-sweeps g c =
+pub returns-in-Err-clause-sweeps : goal.returns-in-Err-clause-sweeps
+returns-in-Err-clause-sweeps g c =
     removal-sweeps g.D.Shelf.told g.D.Shelf.faults g.W.Actor.between g.W.Actor.meanwhile g.met.W.Actor.goes_on (known (g.W.Actor.own c.args.actor.now) (g.W.Actor.house c.args.actor.now)) (known (g.W.Actor.own c.hold.new.self) (g.W.Actor.house c.hold.new.self))
-    c.args.swept.now c.counted.result (refusal_of c.in-Err.why) c.refusal_of.result c.removal_by.result c.refusal_of.ensures c.counted.ensures c.removal_by.ensures
+    c.args.swept.now c.counted.result (refusal_of c.in-Err.why) c.refusal_of-why.result c.removal_by.result c.refusal_of-why.ensures c.counted.ensures c.removal_by.ensures
     (remove-behind g.D.Shelf.told g.D.Shelf.faults g.W.Actor.between g.W.Actor.meanwhile g.met.W.Actor.goes_on c.args.job c.args.dir (g.W.Actor.own c.args.actor.now) (g.W.Actor.own c.hold.new.self) (g.W.Actor.house c.args.actor.now) (g.W.Actor.house c.hold.new.self) c.requires.running
     c.hold.result c.hold.ensures.held c.hold.ensures.went c.in-Err.why c.args.swept.now c.in-Err.is)
 
-pub returns-clause-less : goal.returns-clause-less
-returns-clause-less g c =
+pub returns-in-Err-clause-less : goal.returns-in-Err-clause-less
+returns-in-Err-clause-less g c =
     removal-less g.D.Shelf.told g.D.Shelf.faults g.W.Actor.between g.W.Actor.meanwhile g.met.W.Actor.goes_on (known (g.W.Actor.own c.args.actor.now) (g.W.Actor.house c.args.actor.now)) (known (g.W.Actor.own c.hold.new.self) (g.W.Actor.house c.hold.new.self))
-    c.args.swept.now c.counted.result (refusal_of c.in-Err.why) c.refusal_of.result c.removal_by.result c.refusal_of.ensures c.removal_by.ensures
+    c.args.swept.now c.counted.result (refusal_of c.in-Err.why) c.refusal_of-why.result c.removal_by.result c.refusal_of-why.ensures c.removal_by.ensures
     (remove-behind g.D.Shelf.told g.D.Shelf.faults g.W.Actor.between g.W.Actor.meanwhile g.met.W.Actor.goes_on c.args.job c.args.dir (g.W.Actor.own c.args.actor.now) (g.W.Actor.own c.hold.new.self) (g.W.Actor.house c.args.actor.now) (g.W.Actor.house c.hold.new.self) c.requires.running
     c.hold.result c.hold.ensures.held c.hold.ensures.went c.in-Err.why c.args.swept.now c.in-Err.is)
 
-pub returns-clause-says : goal.returns-clause-says
-returns-clause-says g c =
+pub returns-in-Err-clause-says : goal.returns-in-Err-clause-says
+returns-in-Err-clause-says g c =
     removal-says g.D.Shelf.told g.D.Shelf.faults g.W.Actor.between g.W.Actor.meanwhile g.met.W.Actor.goes_on c.args.job c.args.dir (g.W.Actor.own c.args.actor.now) (g.W.Actor.own c.hold.new.self) (g.W.Actor.house c.args.actor.now) (g.W.Actor.house c.hold.new.self) c.requires.running
-    c.hold.result c.in-Err.why c.args.swept.now c.counted.result c.refusal_of.result c.removal_by.result c.in-Err.is c.hold.ensures.held c.refusal_of.ensures
+    c.hold.result c.in-Err.why c.args.swept.now c.counted.result c.refusal_of-why.result c.removal_by.result c.in-Err.is c.hold.ensures.held c.refusal_of-why.ensures
     c.counted.ensures c.removal_by.ensures
 
-pub returns-clause-went : goal.returns-clause-went
-returns-clause-went g c =
+pub returns-in-Err-clause-went : goal.returns-in-Err-clause-went
+returns-in-Err-clause-went g c =
     removal-went g.D.Shelf.told g.D.Shelf.faults g.W.Actor.between g.W.Actor.meanwhile g.met.W.Actor.goes_on c.args.job c.args.dir (g.W.Actor.own c.args.actor.now) (g.W.Actor.own c.hold.new.self) (g.W.Actor.house c.args.actor.now) (g.W.Actor.house c.hold.new.self) c.requires.running
-    c.refusal_of.result c.removal_by.result c.removal_by.ensures
+    c.refusal_of-why.result c.removal_by.result c.removal_by.ensures

@@ -3,7 +3,8 @@ use Rattle.std.proofs.Common.{◌≡◌, ◌+◌, ℕ, List, sym, subst, arith}
 use Rattle.hv_actor.specs.Acting.{among, numbers_from}
 use Rattle.hv_job_acts.specs.hv_acts.specs.Told.{trail_in}
 use Rattle.hv_clean.specs.Passing.{ForgetTables, ids_of}
-use Rattle.hv_clean.proofs.Moved.{sweeps-none, tables-more, moves-tables, moves-table, moves-front, less-behind}
+use Rattle.hv_clean.proofs.Moved.{sweeps-none, tables-more, moves-table, moves-front}
+use Rattle.hv_clean.proofs.Came.{tables-stop}
 use Rattle.hv_clean.proofs.Lasts.{all-lost}
 use Rattle.hv_clean.proofs.Forgets.{next-number}
 use Rattle.hv_clean.proofs.forgetting.forget_each.Goals as goal
@@ -18,8 +19,7 @@ loop-i-init g c = (
 
 pub returns-in-Err-clause-less : goal.returns-in-Err-clause-less
 returns-in-Err-clause-less g c =
-    less-behind g.D.Shelf.told g.D.Shelf.faults g.W.Actor.between g.met.W.Actor.rows g.W.Actor.meanwhile (known (g.W.Actor.own c.args.actor.now) (g.W.Actor.house c.args.actor.now)) (known (g.W.Actor.own c.loop-i.actor) (g.W.Actor.house c.loop-i.actor)) (known (g.W.Actor.own c.forget_table.new.actor) (g.W.Actor.house c.forget_table.new.actor)) c.in-Err.why
-    (moves-tables g.D.Shelf.told g.D.Shelf.faults g.W.Actor.between g.met.W.Actor.rows g.W.Actor.meanwhile (known (g.W.Actor.own c.args.actor.now) (g.W.Actor.house c.args.actor.now)) (known (g.W.Actor.own c.loop-i.actor) (g.W.Actor.house c.loop-i.actor)) (numbers_from 1 c.loop-i.i) c.args.ids.now c.args.swept.now c.loop-i.swept c.loop-i.invariant.3) c.in-Err.ensures.less
+    tables-stop g.D.Shelf.told g.D.Shelf.faults g.W.Actor.between g.met.W.Actor.rows g.W.Actor.meanwhile (known (g.W.Actor.own c.args.actor.now) (g.W.Actor.house c.args.actor.now)) (known (g.W.Actor.own c.loop-i.actor) (g.W.Actor.house c.loop-i.actor)) (known (g.W.Actor.own c.forget_table.new.actor) (g.W.Actor.house c.forget_table.new.actor)) c.loop-i.i c.args.tables c.args.ids.now c.args.swept.now c.loop-i.swept c.in-Err.why c.loop-i-test.true c.loop-i.invariant.3 c.in-Err.ensures.less
 
 pub loop-i-preserved : goal.loop-i-preserved
 loop-i-preserved g c =

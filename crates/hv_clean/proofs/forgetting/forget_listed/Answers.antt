@@ -5,7 +5,8 @@ use Rattle.hv_actor.specs.Acting.{among}
 use Rattle.hv_job_acts.specs.hv_acts.specs.Told.{trail_in}
 use Rattle.hv_job_acts.specs.declared.asking.LostId.{LostId}
 use Rattle.hv_clean.specs.Passing.{ForgetEach, ids_of}
-use Rattle.hv_clean.proofs.Moved.{sweeps-none, ids-append, moves-ids, moves-front, less-behind}
+use Rattle.hv_clean.proofs.Moved.{sweeps-none, ids-append, moves-ids, moves-front}
+use Rattle.hv_clean.proofs.Came.{ids-stop}
 use Rattle.hv_clean.proofs.Lasts.{all-lost}
 use Rattle.hv_clean.proofs.Forgets.{lost-at, ids-next}
 use Rattle.hv_clean.proofs.forgetting.forget_listed.Goals as goal
@@ -24,9 +25,7 @@ forget_if-requires-clause-lost g c =
 
 pub returns-in-Err-clause-less : goal.returns-in-Err-clause-less
 returns-in-Err-clause-less g c =
-    less-behind g.D.Shelf.told g.D.Shelf.faults g.W.Actor.between g.met.W.Actor.rows g.W.Actor.meanwhile (known (g.W.Actor.own c.args.actor.now) (g.W.Actor.house c.args.actor.now)) (known (g.W.Actor.own c.loop-id.actor) (g.W.Actor.house c.loop-id.actor)) (known (g.W.Actor.own c.forget_if.new.actor) (g.W.Actor.house c.forget_if.new.actor)) c.in-Err.why
-    (moves-ids g.D.Shelf.told g.D.Shelf.faults g.W.Actor.between g.met.W.Actor.rows g.W.Actor.meanwhile (known (g.W.Actor.own c.args.actor.now) (g.W.Actor.house c.args.actor.now)) (known (g.W.Actor.own c.loop-id.actor) (g.W.Actor.house c.loop-id.actor)) (ids_of c.args.table (take c.loop-id.id-index c.args.ids.now)) c.args.swept.now c.loop-id.swept c.loop-id.invariant.3)
-    c.in-Err.ensures.less
+    ids-stop g.D.Shelf.told g.D.Shelf.faults g.W.Actor.between g.met.W.Actor.rows g.W.Actor.meanwhile (known (g.W.Actor.own c.args.actor.now) (g.W.Actor.house c.args.actor.now)) (known (g.W.Actor.own c.loop-id.actor) (g.W.Actor.house c.loop-id.actor)) (known (g.W.Actor.own c.forget_if.new.actor) (g.W.Actor.house c.forget_if.new.actor)) c.args.table c.args.ids.now c.loop-id.id-index c.args.swept.now c.loop-id.swept c.in-Err.why c.loop-id.invariant.3 c.in-Err.ensures.less
 
 pub loop-id-preserved : goal.loop-id-preserved
 loop-id-preserved g c =

@@ -2,9 +2,10 @@ use Rattle.hv_actor.specs.Acting.{known}
 use Rattle.std.proofs.Common.{sym, ◌∙◌}
 use Rattle.hv_job_acts.specs.hv_acts.specs.Told.{trail_in}
 use Rattle.hv_clean.specs.Passing.{ids_of}
-use Rattle.hv_clean.proofs.Moved.{less-up, moves-sweeps, moves-front}
+use Rattle.hv_clean.proofs.Moved.{moves-sweeps, moves-front}
 use Rattle.hv_clean.proofs.Lasts.{all-lost}
 use Rattle.hv_clean.proofs.Forgets.{no-table, no-ids, table-ok}
+use Rattle.hv_clean.proofs.Came.{table-up, table-stop}
 use Rattle.hv_clean.proofs.forgetting.forget_table.Goals as goal
 
 pub returns-then-not-is_any_of-clause-forgets : goal.returns-then-not-is_any_of-clause-forgets
@@ -22,13 +23,17 @@ forget_found-requires g c =
           (moves-front g.D.Shelf.told g.D.Shelf.faults g.W.Actor.between g.met.W.Actor.rows g.W.Actor.meanwhile (known (g.W.Actor.own c.args.actor.now) (g.W.Actor.house c.args.actor.now)) (known (g.W.Actor.own c.list.new.actor) (g.W.Actor.house c.list.new.actor)) (moves-sweeps g.D.Shelf.told g.D.Shelf.faults g.W.Actor.between g.met.W.Actor.rows g.W.Actor.meanwhile (known (g.W.Actor.own c.args.actor.now) (g.W.Actor.house c.args.actor.now)) (known (g.W.Actor.own c.list.new.actor) (g.W.Actor.house c.list.new.actor)) c.args.swept.now c.list.new.swept s)) c.args.ids.now c.requires.lost;
     }
 
-pub returns-clause-forgets : goal.returns-clause-forgets
-returns-clause-forgets g c =
+pub returns-in-Ok-clause-forgets : goal.returns-in-Ok-clause-forgets
+returns-in-Ok-clause-forgets g c =
     table-ok g.D.Shelf.told g.D.Shelf.faults g.W.Actor.between g.met.W.Actor.rows g.W.Actor.meanwhile (known (g.W.Actor.own c.args.actor.now) (g.W.Actor.house c.args.actor.now)) (known (g.W.Actor.own c.list.new.actor) (g.W.Actor.house c.list.new.actor)) (known (g.W.Actor.own c.forget_found.new.actor) (g.W.Actor.house c.forget_found.new.actor)) (ids_of c.args.table c.args.ids.now) c.in-Ok.found
     c.args.swept.now c.list.new.swept c.forget_found.new.swept c.forget_found.result c.in-Ok.ensures.sweeps c.in-Ok.ensures.listed
     c.forget_found.ensures.forgets
 
-pub returns-clause-less : goal.returns-clause-less
-returns-clause-less g c =
-    less-up g.D.Shelf.told g.D.Shelf.faults g.W.Actor.between g.met.W.Actor.rows g.W.Actor.meanwhile (known (g.W.Actor.own c.args.actor.now) (g.W.Actor.house c.args.actor.now)) (known (g.W.Actor.own c.list.new.actor) (g.W.Actor.house c.list.new.actor)) (known (g.W.Actor.own c.forget_found.new.actor) (g.W.Actor.house c.forget_found.new.actor)) c.forget_found.result
-    (moves-sweeps g.D.Shelf.told g.D.Shelf.faults g.W.Actor.between g.met.W.Actor.rows g.W.Actor.meanwhile (known (g.W.Actor.own c.args.actor.now) (g.W.Actor.house c.args.actor.now)) (known (g.W.Actor.own c.list.new.actor) (g.W.Actor.house c.list.new.actor)) c.args.swept.now c.list.new.swept c.in-Ok.ensures.sweeps) c.forget_found.ensures.less
+pub returns-in-Ok-clause-less : goal.returns-in-Ok-clause-less
+returns-in-Ok-clause-less g c =
+    table-up g.D.Shelf.told g.D.Shelf.faults g.W.Actor.between g.met.W.Actor.rows g.W.Actor.meanwhile (known (g.W.Actor.own c.args.actor.now) (g.W.Actor.house c.args.actor.now)) (known (g.W.Actor.own c.list.new.actor) (g.W.Actor.house c.list.new.actor)) (known (g.W.Actor.own c.forget_found.new.actor) (g.W.Actor.house c.forget_found.new.actor)) (ids_of c.args.table c.args.ids.now) c.args.swept.now c.list.new.swept c.forget_found.result c.in-Ok.ensures.sweeps c.forget_found.ensures.less
+
+pub returns-in-Err-clause-less : goal.returns-in-Err-clause-less
+returns-in-Err-clause-less g c =
+    table-stop g.D.Shelf.told g.D.Shelf.faults g.W.Actor.between g.met.W.Actor.rows g.W.Actor.meanwhile (known (g.W.Actor.own c.args.actor.now) (g.W.Actor.house c.args.actor.now)) (known (g.W.Actor.own c.list.new.actor) (g.W.Actor.house c.list.new.actor)) (ids_of c.args.table c.args.ids.now) c.args.swept.now c.in-Err.why
+    c.requires.running c.in-Err.ensures.less

@@ -31,8 +31,7 @@ remove_lost-requires g c = record {
 
 pub returns-in-Err-clause-less : goal.returns-in-Err-clause-less
 returns-in-Err-clause-less g c =
-    less-behind g.D.Shelf.told g.D.Shelf.faults g.W.Actor.between g.met.W.Actor.rows g.W.Actor.meanwhile (known (g.W.Actor.own c.args.actor.now) (g.W.Actor.house c.args.actor.now)) (known (g.W.Actor.own c.loop-dir.actor) (g.W.Actor.house c.loop-dir.actor)) (known (g.W.Actor.own c.remove_lost.new.actor) (g.W.Actor.house c.remove_lost.new.actor)) c.in-Err.why
-    (moves-sweeps g.D.Shelf.told g.D.Shelf.faults g.W.Actor.between g.met.W.Actor.rows g.W.Actor.meanwhile (known (g.W.Actor.own c.args.actor.now) (g.W.Actor.house c.args.actor.now)) (known (g.W.Actor.own c.loop-dir.actor) (g.W.Actor.house c.loop-dir.actor)) c.args.swept.now c.loop-dir.swept c.loop-dir.invariant.1) c.in-Err.ensures.less
+    less-behind g.D.Shelf.told g.D.Shelf.faults g.W.Actor.between g.met.W.Actor.rows g.W.Actor.meanwhile (known (g.W.Actor.own c.args.actor.now) (g.W.Actor.house c.args.actor.now)) (known (g.W.Actor.own c.loop-dir.actor) (g.W.Actor.house c.loop-dir.actor)) (known (g.W.Actor.own c.remove_lost.new.actor) (g.W.Actor.house c.remove_lost.new.actor)) c.args.swept.now c.loop-dir.swept c.in-Err.why c.loop-dir.invariant.1 c.in-Err.ensures.less
 
 pub loop-dir-preserved : goal.loop-dir-preserved
 loop-dir-preserved g c =

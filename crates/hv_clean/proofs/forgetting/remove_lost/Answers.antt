@@ -28,20 +28,20 @@ returns-in-Ok-clause-sweeps g c =
     went-swept g.D.Shelf.told g.D.Shelf.faults g.W.Actor.between g.W.Actor.meanwhile g.met.W.Actor.goes_on (λ (seen : HouseSeen g.D) (r : Result _ _). OwnGoesSo (state_at seen.trail) c.args.id.table r)
     (g.W.Actor.own c.args.actor.now) (g.W.Actor.own c.hold.new.self) (g.W.Actor.house c.args.actor.now) (g.W.Actor.house c.hold.new.self) c.requires.running c.args.swept.now c.args.dir tt c.hold.result c.in-Ok.is c.hold.ensures.held c.hold.ensures.went
 
-pub returns-clause-sweeps : goal.returns-clause-sweeps
-returns-clause-sweeps g c =
+pub returns-in-Err-clause-sweeps : goal.returns-in-Err-clause-sweeps
+returns-in-Err-clause-sweeps g c =
     refused-sweeps g.D.Shelf.told g.D.Shelf.faults g.W.Actor.between g.W.Actor.meanwhile g.met.W.Actor.goes_on (known (g.W.Actor.own c.args.actor.now) (g.W.Actor.house c.args.actor.now)) (known (g.W.Actor.own c.hold.new.self) (g.W.Actor.house c.hold.new.self))
-    c.args.swept.now c.counted.result (refusal_of c.in-Err.why) c.refusal_of.result c.unless_stopped.result c.refusal_of.ensures c.counted.ensures
+    c.args.swept.now c.counted.result (refusal_of c.in-Err.why) c.refusal_of-why.result c.unless_stopped.result c.refusal_of-why.ensures c.counted.ensures
     c.unless_stopped.ensures
     (behind-err g.D.Shelf.told g.D.Shelf.faults g.W.Actor.between g.W.Actor.meanwhile g.met.W.Actor.goes_on (λ (seen : HouseSeen g.D) (r : Result _ _). OwnGoesSo (state_at seen.trail) c.args.id.table r)
-    (g.W.Actor.own c.args.actor.now) (g.W.Actor.own c.hold.new.self) (g.W.Actor.house c.args.actor.now) (g.W.Actor.house c.hold.new.self) c.requires.running c.args.swept.now (Remove None c.args.dir) (remove-quietly c.args.dir) c.hold.result c.in-Err.why c.in-Err.is
+    (g.W.Actor.own c.args.actor.now) (g.W.Actor.own c.hold.new.self) (g.W.Actor.house c.args.actor.now) (g.W.Actor.house c.hold.new.self) c.requires.running c.args.swept.now (Remove None c.args.dir) (remove-quietly c.args.dir) (λ seen entries so. absurd so.others) c.hold.result c.in-Err.why c.in-Err.is
     c.hold.ensures.held c.hold.ensures.went)
 
-pub returns-clause-less : goal.returns-clause-less
-returns-clause-less g c =
+pub returns-in-Err-clause-less : goal.returns-in-Err-clause-less
+returns-in-Err-clause-less g c =
     refused-less g.D.Shelf.told g.D.Shelf.faults g.W.Actor.between g.W.Actor.meanwhile g.met.W.Actor.goes_on (known (g.W.Actor.own c.args.actor.now) (g.W.Actor.house c.args.actor.now)) (known (g.W.Actor.own c.hold.new.self) (g.W.Actor.house c.hold.new.self))
-    c.args.swept.now c.args.swept.now (refusal_of c.in-Err.why) c.refusal_of.result c.unless_stopped.result c.refusal_of.ensures
+    c.args.swept.now c.args.swept.now (refusal_of c.in-Err.why) c.refusal_of-why.result c.unless_stopped.result c.refusal_of-why.ensures
     c.unless_stopped.ensures
     (behind-err g.D.Shelf.told g.D.Shelf.faults g.W.Actor.between g.W.Actor.meanwhile g.met.W.Actor.goes_on (λ (seen : HouseSeen g.D) (r : Result _ _). OwnGoesSo (state_at seen.trail) c.args.id.table r)
-    (g.W.Actor.own c.args.actor.now) (g.W.Actor.own c.hold.new.self) (g.W.Actor.house c.args.actor.now) (g.W.Actor.house c.hold.new.self) c.requires.running c.args.swept.now (Remove None c.args.dir) (remove-quietly c.args.dir) c.hold.result c.in-Err.why c.in-Err.is
+    (g.W.Actor.own c.args.actor.now) (g.W.Actor.own c.hold.new.self) (g.W.Actor.house c.args.actor.now) (g.W.Actor.house c.hold.new.self) c.requires.running c.args.swept.now (Remove None c.args.dir) (remove-quietly c.args.dir) (λ seen entries so. absurd so.others) c.hold.result c.in-Err.why c.in-Err.is
     c.hold.ensures.held c.hold.ensures.went)

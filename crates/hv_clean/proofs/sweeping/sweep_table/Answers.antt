@@ -14,12 +14,11 @@ sweep_found-requires g c =
           (moves-front g.D.Shelf.told g.D.Shelf.faults g.W.Actor.between g.met.W.Actor.rows g.W.Actor.meanwhile (known (g.W.Actor.own c.args.actor.now) (g.W.Actor.house c.args.actor.now)) (known (g.W.Actor.own c.list.new.actor) (g.W.Actor.house c.list.new.actor)) (moves-sweeps g.D.Shelf.told g.D.Shelf.faults g.W.Actor.between g.met.W.Actor.rows g.W.Actor.meanwhile (known (g.W.Actor.own c.args.actor.now) (g.W.Actor.house c.args.actor.now)) (known (g.W.Actor.own c.list.new.actor) (g.W.Actor.house c.list.new.actor)) c.args.swept.now c.list.new.swept s)) c.args.table (c.requires.dropped dead);
     }
 
-pub returns-clause-sweeps : goal.returns-clause-sweeps
-returns-clause-sweeps g c =
+pub returns-in-Ok-clause-sweeps : goal.returns-in-Ok-clause-sweeps
+returns-in-Ok-clause-sweeps g c =
     sweeps-ok g.D.Shelf.told g.D.Shelf.faults g.W.Actor.between g.met.W.Actor.rows g.W.Actor.meanwhile (known (g.W.Actor.own c.args.actor.now) (g.W.Actor.house c.args.actor.now)) (known (g.W.Actor.own c.list.new.actor) (g.W.Actor.house c.list.new.actor)) (known (g.W.Actor.own c.sweep_found.new.actor) (g.W.Actor.house c.sweep_found.new.actor)) c.args.swept.now c.list.new.swept c.sweep_found.new.swept c.sweep_found.result c.in-Ok.ensures.sweeps
     c.sweep_found.ensures.sweeps
 
-pub returns-clause-less : goal.returns-clause-less
-returns-clause-less g c =
-    less-up g.D.Shelf.told g.D.Shelf.faults g.W.Actor.between g.met.W.Actor.rows g.W.Actor.meanwhile (known (g.W.Actor.own c.args.actor.now) (g.W.Actor.house c.args.actor.now)) (known (g.W.Actor.own c.list.new.actor) (g.W.Actor.house c.list.new.actor)) (known (g.W.Actor.own c.sweep_found.new.actor) (g.W.Actor.house c.sweep_found.new.actor)) c.sweep_found.result
-    (moves-sweeps g.D.Shelf.told g.D.Shelf.faults g.W.Actor.between g.met.W.Actor.rows g.W.Actor.meanwhile (known (g.W.Actor.own c.args.actor.now) (g.W.Actor.house c.args.actor.now)) (known (g.W.Actor.own c.list.new.actor) (g.W.Actor.house c.list.new.actor)) c.args.swept.now c.list.new.swept c.in-Ok.ensures.sweeps) c.sweep_found.ensures.less
+pub returns-in-Ok-clause-less : goal.returns-in-Ok-clause-less
+returns-in-Ok-clause-less g c =
+    less-up g.D.Shelf.told g.D.Shelf.faults g.W.Actor.between g.met.W.Actor.rows g.W.Actor.meanwhile (known (g.W.Actor.own c.args.actor.now) (g.W.Actor.house c.args.actor.now)) (known (g.W.Actor.own c.list.new.actor) (g.W.Actor.house c.list.new.actor)) (known (g.W.Actor.own c.sweep_found.new.actor) (g.W.Actor.house c.sweep_found.new.actor)) c.args.swept.now c.list.new.swept c.sweep_found.result c.in-Ok.ensures.sweeps c.sweep_found.ensures.less

@@ -1,5 +1,5 @@
 use Rattle.hv_actor.specs.Acting.{known}
-use Rattle.std.proofs.Common.{true, false, arith}
+use Rattle.std.proofs.Common.{false, arith}
 use Rattle.hv_job_acts.specs.hv_acts.specs.Told.{trail_in}
 use Rattle.hv_clean.proofs.Moved.{sweeps-none, sweeps-then, moves-sweeps, moves-front, less-behind}
 use Rattle.hv_clean.proofs.Lasts.{dead-dropped, tables-last}
@@ -22,8 +22,7 @@ sweep_table-requires g c = record {
 
 pub returns-in-Err-clause-less : goal.returns-in-Err-clause-less
 returns-in-Err-clause-less g c =
-    less-behind g.D.Shelf.told g.D.Shelf.faults g.W.Actor.between g.met.W.Actor.rows g.W.Actor.meanwhile (known (g.W.Actor.own c.args.actor.now) (g.W.Actor.house c.args.actor.now)) (known (g.W.Actor.own c.loop-i.actor) (g.W.Actor.house c.loop-i.actor)) (known (g.W.Actor.own c.sweep_table.new.actor) (g.W.Actor.house c.sweep_table.new.actor)) c.in-Err.why
-    (moves-sweeps g.D.Shelf.told g.D.Shelf.faults g.W.Actor.between g.met.W.Actor.rows g.W.Actor.meanwhile (known (g.W.Actor.own c.args.actor.now) (g.W.Actor.house c.args.actor.now)) (known (g.W.Actor.own c.loop-i.actor) (g.W.Actor.house c.loop-i.actor)) c.args.swept.now c.loop-i.swept c.loop-i.invariant.1) c.in-Err.ensures.less
+    less-behind g.D.Shelf.told g.D.Shelf.faults g.W.Actor.between g.met.W.Actor.rows g.W.Actor.meanwhile (known (g.W.Actor.own c.args.actor.now) (g.W.Actor.house c.args.actor.now)) (known (g.W.Actor.own c.loop-i.actor) (g.W.Actor.house c.loop-i.actor)) (known (g.W.Actor.own c.sweep_table.new.actor) (g.W.Actor.house c.sweep_table.new.actor)) c.args.swept.now c.loop-i.swept c.in-Err.why c.loop-i.invariant.1 c.in-Err.ensures.less
 
 pub loop-i-preserved : goal.loop-i-preserved
 loop-i-preserved g c =
