@@ -202,7 +202,7 @@ module _ {D : Type 0} (told : D → Option Store) (faults : D → ℕ) (between 
       running = ends.running;
     }
 
-    compacts-picked : (answer : Finished) → EndsIn (among told faults between meanwhile) found.job b c answer
+    pub compacts-picked : (answer : Finished) → EndsIn (among told faults between meanwhile) found.job b c answer
         → CompactsSo (among told faults between meanwhile) a c answer
     compacts-picked done.Idle ends = absurd ends
     compacts-picked done.Nothing ends = (found.job, ends-by IsMarkOf (entry.Empty found.job) _ ends)
@@ -217,7 +217,7 @@ module _ {D : Type 0} (told : D → Option Store) (faults : D → ℕ) (between 
         subst (λ (j : JobId). CompactsSo (among told faults between meanwhile) a c (done.GivenUp j why)) (sym ends.0)
         (ends-by IsMarkOf (entry.Failed found.job why) _ ends.1)
 
-    picked-running : (answer : Finished) → EndsIn (among told faults between meanwhile) found.job b c answer → IsOpenHouse c.house
+    pub picked-running : (answer : Finished) → EndsIn (among told faults between meanwhile) found.job b c answer → IsOpenHouse c.house
     picked-running done.Idle ends = absurd ends
     picked-running done.Nothing ends = ends.running
     picked-running (done.Published one mark) ends = ends.1.ends.running
@@ -230,7 +230,7 @@ module _ {D : Type 0} (told : D → Option Store) (faults : D → ℕ) (between 
         (adds-more faults between rows a b ends.left (Noted (entry.Picked found.job found.watermark) ∷ []) ends.marks picks.adds ends.adds)
         ends.ends.adds).later
 
-    picked-later : (answer : Finished) → EndsIn (among told faults between meanwhile) found.job b c answer → IsLater faults (seen_in a.house) (seen_in c.house)
+    pub picked-later : (answer : Finished) → EndsIn (among told faults between meanwhile) found.job b c answer → IsLater faults (seen_in a.house) (seen_in c.house)
     picked-later done.Idle ends = absurd ends
     picked-later done.Nothing ends = ends-later IsMarkOf (entry.Empty found.job) _ ends
     picked-later (done.Published one mark) ends = ends-later IsWroteOf (entry.Published found.job ends.1.low ends.1.high mark) _ ends.1.ends
