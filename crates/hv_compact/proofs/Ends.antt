@@ -54,16 +54,17 @@ broken-mark job put count (Marked (Wrote by place) ∷ items) is =
     behind (Marked (Wrote by place)) items (job_mark job put count) (broken-mark job put count items is)
 broken-mark job put count (Marked (Went dir) ∷ items) is =
     behind (Marked (Went dir)) items (job_mark job put count) (broken-mark job put count items is)
-broken-mark job put count (Marked (Broke by broke at) ∷ items) is = by_test (is_reader (reader.Job job) by) refl is
+broken-mark job put count (Marked (Broke by broke at) ∷ items) is = by_test (is_reader (reader.Job job) by) refl is (λ e. broken-mark job put count items e)
   where
     by_test : (b : Bool) → is_reader (reader.Job job) by ≡ b → (if b then Some (broke, at) else broken (reader.Job job) items) ≡ Some (put, count)
+        → (broken (reader.Job job) items ≡ Some (put, count) → Contains items (job_mark job put count))
         → Contains (Marked (Broke by broke at) ∷ items) (job_mark job put count)
-    by_test true mine e =
+    by_test true mine e later =
         let same : (broke, at) ≡ (put, count) = cc in
         subst (λ (p : Bool × ℕ). Contains (Marked (Broke by broke at) ∷ items) (job_mark job p.0 p.1)) same
         (subst (λ (o : Option Reader). Contains (Marked (Broke by broke at) ∷ items) (Marked (Broke o broke at))) (same-job job by mine)
         (0, omega arith, refl))
-    by_test false mine e = behind (Marked (Broke by broke at)) items (job_mark job put count) (broken-mark job put count items e)
+    by_test false mine e later = behind (Marked (Broke by broke at)) items (job_mark job put count) (later e)
 
 -- the mark for a cause stands later
 pub mark-later : (before now : List TrailItem) (job : JobId) (why : JobCause) → IsFront before now → HasJobMark before job why → HasJobMark now job why
