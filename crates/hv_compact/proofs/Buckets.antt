@@ -111,12 +111,12 @@ all-both P (x ∷ xs) ys all more = (all.0, all-both P xs ys all.1 more)
 all-merged : {A : Type 0} (P : A → Type 0) (cmp : A → A → Ordering) (x : A) (xs : List A) → P x → AllByRecursion P xs
     → AllByRecursion P (merge_by cmp x xs)
 all-merged P cmp x [] here all = (here, tt)
-all-merged P cmp x (y ∷ ys) here all = by (cmp x y)
+all-merged P cmp x (y ∷ ys) here all = by (cmp x y) (all-merged P cmp x ys here all.1)
   where
-    by : (o : Ordering) → AllByRecursion P (merged_by cmp o x y ys (merge_by cmp x ys))
-    by Less = (here, all)
-    by Equal = all
-    by Greater = (all.0, all-merged P cmp x ys here all.1)
+    by : (o : Ordering) → AllByRecursion P (merge_by cmp x ys) → AllByRecursion P (merged_by cmp o x y ys (merge_by cmp x ys))
+    by Less rest = (here, all)
+    by Equal rest = all
+    by Greater rest = (all.0, rest)
 
 all-rising : {A : Type 0} (P : A → Type 0) (cmp : A → A → Ordering) (xs : List A) → AllByRecursion P xs → AllByRecursion P (rising_by cmp xs)
 all-rising P cmp [] all = tt

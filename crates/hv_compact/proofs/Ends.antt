@@ -54,16 +54,17 @@ broken-mark job put count (Marked (Wrote by place) ∷ items) is =
     behind (Marked (Wrote by place)) items (job_mark job put count) (broken-mark job put count items is)
 broken-mark job put count (Marked (Went dir) ∷ items) is =
     behind (Marked (Went dir)) items (job_mark job put count) (broken-mark job put count items is)
-broken-mark job put count (Marked (Broke by broke at) ∷ items) is = by_test (is_reader (reader.Job job) by) refl is
+broken-mark job put count (Marked (Broke by broke at) ∷ items) is = by_test (is_reader (reader.Job job) by) refl is (λ e. broken-mark job put count items e)
   where
     by_test : (b : Bool) → is_reader (reader.Job job) by ≡ b → (if b then Some (broke, at) else broken (reader.Job job) items) ≡ Some (put, count)
+        → (broken (reader.Job job) items ≡ Some (put, count) → Contains items (job_mark job put count))
         → Contains (Marked (Broke by broke at) ∷ items) (job_mark job put count)
-    by_test true mine e =
+    by_test true mine e later =
         let same : (broke, at) ≡ (put, count) = cc in
         subst (λ (p : Bool × ℕ). Contains (Marked (Broke by broke at) ∷ items) (job_mark job p.0 p.1)) same
         (subst (λ (o : Option Reader). Contains (Marked (Broke by broke at) ∷ items) (Marked (Broke o broke at))) (same-job job by mine)
         (0, omega arith, refl))
-    by_test false mine e = behind (Marked (Broke by broke at)) items (job_mark job put count) (broken-mark job put count items e)
+    by_test false mine e later = behind (Marked (Broke by broke at)) items (job_mark job put count) (later e)
 
 -- the mark for a cause stands later
 pub mark-later : (before now : List TrailItem) (job : JobId) (why : JobCause) → IsFront before now → HasJobMark before job why → HasJobMark now job why
@@ -202,7 +203,7 @@ module _ {D : Type 0} (told : D → Option Store) (faults : D → ℕ) (between 
       running = ends.running;
     }
 
-    compacts-picked : (answer : Finished) → EndsIn (among told faults between meanwhile) found.job b c answer
+    pub compacts-picked : (answer : Finished) → EndsIn (among told faults between meanwhile) found.job b c answer
         → CompactsSo (among told faults between meanwhile) a c answer
     compacts-picked done.Idle ends = absurd ends
     compacts-picked done.Nothing ends = (found.job, ends-by IsMarkOf (entry.Empty found.job) _ ends)
@@ -217,7 +218,7 @@ module _ {D : Type 0} (told : D → Option Store) (faults : D → ℕ) (between 
         subst (λ (j : JobId). CompactsSo (among told faults between meanwhile) a c (done.GivenUp j why)) (sym ends.0)
         (ends-by IsMarkOf (entry.Failed found.job why) _ ends.1)
 
-    picked-running : (answer : Finished) → EndsIn (among told faults between meanwhile) found.job b c answer → IsOpenHouse c.house
+    pub picked-running : (answer : Finished) → EndsIn (among told faults between meanwhile) found.job b c answer → IsOpenHouse c.house
     picked-running done.Idle ends = absurd ends
     picked-running done.Nothing ends = ends.running
     picked-running (done.Published one mark) ends = ends.1.ends.running
@@ -230,7 +231,7 @@ module _ {D : Type 0} (told : D → Option Store) (faults : D → ℕ) (between 
         (adds-more faults between rows a b ends.left (Noted (entry.Picked found.job found.watermark) ∷ []) ends.marks picks.adds ends.adds)
         ends.ends.adds).later
 
-    picked-later : (answer : Finished) → EndsIn (among told faults between meanwhile) found.job b c answer → IsLater faults (seen_in a.house) (seen_in c.house)
+    pub picked-later : (answer : Finished) → EndsIn (among told faults between meanwhile) found.job b c answer → IsLater faults (seen_in a.house) (seen_in c.house)
     picked-later done.Idle ends = absurd ends
     picked-later done.Nothing ends = ends-later IsMarkOf (entry.Empty found.job) _ ends
     picked-later (done.Published one mark) ends = ends-later IsWroteOf (entry.Published found.job ends.1.low ends.1.high mark) _ ends.1.ends

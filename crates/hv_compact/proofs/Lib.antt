@@ -21,3 +21,6 @@ pub mod NameFiles
 pub mod Taken
 pub mod Shown
 pub mod Only
+pub mod Minor
+pub mod Major
+pub mod Listed

@@ -77,14 +77,12 @@ use Rattle.hv_compact.proofs.Taken.{recs_made, IsWorkOf, IsChosen, chosen-kind, 
 
 rises-kept : {X : Type 0} (cmp : X → X → Ordering) (p : X → Bool) (xs : List X) → Rises cmp xs → Rises cmp (filter p xs)
 rises-kept cmp p [] up = tt
-rises-kept cmp p (x ∷ xs) up = by (p x)
+rises-kept cmp p (x ∷ xs) up = by (p x) (rises-kept cmp p xs up.1)
   where
-    by : (b : Bool) → Rises cmp (cond b (x ∷ filter p xs) (filter p xs))
-    by true = (
-      all-from (λ y. cmp x y ≡ Less) (filter p xs) (λ y at. all-in (λ z. cmp x z ≡ Less) xs y up.0 (from-filter p y xs at).0),
-      rises-kept cmp p xs up.1,
-    )
-    by false = rises-kept cmp p xs up.1
+    by : (b : Bool) → Rises cmp (filter p xs) → Rises cmp (cond b (x ∷ filter p xs) (filter p xs))
+    by true rest =
+        (all-from (λ y. cmp x y ≡ Less) (filter p xs) (λ y at. all-in (λ z. cmp x z ≡ Less) xs y up.0 (from-filter p y xs at).0), rest)
+    by false rest = rest
 
 rises-mapped : {X Y : Type 0} (cmp : X → X → Ordering) (other : Y → Y → Ordering) (f : X → Y) → ((a b : X) → other (f a) (f b) ≡ cmp a b) → (xs : List X) → Rises cmp xs
     → Rises other (map f xs)
@@ -105,7 +103,9 @@ shown-id-total = on_total merge.id_of row_id_total
 -- ---- one record
 
 row-again : (r : Rec) (x : Shown) → row_of r ≡ Some x → inserted x ≡ r
-row-again (rec.Insert id row) x e = sym (ap inserted (one_value (record { id = id; row = row }) x e))
+row-again (rec.Insert id row) x e =
+    let shown : Shown = record { id = id; row = row } in
+    sym (ap inserted (one_value shown x e))
 row-again (rec.Delete id by) x e = cc
 
 deleted-of : (r : Rec) (deleted : RowId × ℕ) → delete_of r ≡ Some deleted → IsIn deleted (deleted_by r)

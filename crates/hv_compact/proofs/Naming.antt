@@ -192,11 +192,9 @@ pub parts-are : (partition : List ℕ) (places : List Place) (named part : List 
     → AreListed (filter (is_part partition) places) part → part ≡ filter (is_of partition) named
 parts-are partition [] named part listed its = its ∙ sym (ap (filter (is_of partition)) listed)
 parts-are partition (place ∷ places) named part listed its =
-    by (is_part partition place) refl its ∙ sym (ap (filter (is_of partition)) listed.3)
+    by (λ more is. parts-are partition places listed.1 more listed.4 is) (is_part partition place) refl its
+    ∙ sym (ap (filter (is_of partition)) listed.3)
   where
-    rest : (more : List DirFile) → AreListed (filter (is_part partition) places) more → more ≡ filter (is_of partition) listed.1
-    rest more is = parts-are partition places listed.1 more listed.4 is
-
     kept : (o : Option DirFile) → IsListed place o → is_part partition place ≡ true
         → cons_option o (filter (is_of partition) listed.1) ≡ filter (is_of partition) (cons_option o listed.1)
     kept None is e = refl
@@ -211,40 +209,41 @@ parts-are partition (place ∷ places) named part listed its =
         sym (ap (λ b. cond b (file ∷ filter (is_of partition) listed.1) (filter (is_of partition) listed.1))
         (ap (λ (p : Place). is_part partition p) is.0 ∙ e))
 
-    by : (b : Bool) → is_part partition place ≡ b
+    by : ((more : List DirFile) → AreListed (filter (is_part partition) places) more → more ≡ filter (is_of partition) listed.1)
+        → (b : Bool) → is_part partition place ≡ b
         → AreListed (cond b (place ∷ filter (is_part partition) places) (filter (is_part partition) places)) part
         → part ≡ filter (is_of partition) (cons_option listed.0 listed.1)
-    by true e is =
+    by rest true e is =
         is.3 ∙ ap (λ (o : Option DirFile). cons_option o is.1) (same-file place is.0 listed.0 is.2 listed.2)
         ∙ ap (λ (more : List DirFile). cons_option listed.0 more) (rest is.1 is.4) ∙ kept listed.0 listed.2 e
-    by false e is = rest part is ∙ left listed.0 listed.2 e
+    by rest false e is = rest part is ∙ left listed.0 listed.2 e
 
 -- ---- what is taken in it
 
 all-kept : (Q : DirFile → Type 0) (p : DirFile → Bool) (files : List DirFile) → AllByRecursion Q files → AllByRecursion Q (filter p files)
 all-kept Q p [] all = tt
-all-kept Q p (file ∷ files) all = by (p file)
+all-kept Q p (file ∷ files) all = by (p file) (all-kept Q p files all.1)
   where
-    by : (b : Bool) → AllByRecursion Q (cond b (file ∷ filter p files) (filter p files))
-    by true = (all.0, all-kept Q p files all.1)
-    by false = all-kept Q p files all.1
+    by : (b : Bool) → AllByRecursion Q (filter p files) → AllByRecursion Q (cond b (file ∷ filter p files) (filter p files))
+    by true rest = (all.0, rest)
+    by false rest = rest
 
 rising-kept : (p : DirFile → Bool) (files : List DirFile) → RisingParts files → RisingParts (filter p files)
 rising-kept p [] rises = tt
-rising-kept p (file ∷ files) rises = by (p file)
+rising-kept p (file ∷ files) rises = by (p file) (rising-kept p files rises.1)
   where
-    by : (b : Bool) → RisingParts (cond b (file ∷ filter p files) (filter p files))
-    by true =
-        (all-kept (λ (other : DirFile). text_cmp file.place.partition other.place.partition ≡ Greater → ⊥) p files rises.0, rising-kept p files rises.1)
-    by false = rising-kept p files rises.1
+    by : (b : Bool) → RisingParts (filter p files) → RisingParts (cond b (file ∷ filter p files) (filter p files))
+    by true rest = (all-kept (λ (other : DirFile). text_cmp file.place.partition other.place.partition ≡ Greater → ⊥) p files rises.0, rest)
+    by false rest = rest
 
 kept-twice : (p : DirFile → Bool) (files : List DirFile) → filter p (filter p files) ≡ filter p files
 kept-twice p [] = refl
-kept-twice p (file ∷ files) = by (p file) refl
+kept-twice p (file ∷ files) = by (p file) refl (kept-twice p files)
   where
-    by : (b : Bool) → p file ≡ b → filter p (cond b (file ∷ filter p files) (filter p files)) ≡ cond b (file ∷ filter p files) (filter p files)
-    by true e = ap (λ c. cond c (file ∷ filter p (filter p files)) (filter p (filter p files))) e ∙ ap (λ (more : List DirFile). file ∷ more) (kept-twice p files)
-    by false e = kept-twice p files
+    by : (b : Bool) → p file ≡ b → filter p (filter p files) ≡ filter p files
+        → filter p (cond b (file ∷ filter p files) (filter p files)) ≡ cond b (file ∷ filter p files) (filter p files)
+    by true e rest = ap (λ c. cond c (file ∷ filter p (filter p files)) (filter p (filter p files))) e ∙ ap (λ (more : List DirFile). file ∷ more) rest
+    by false e rest = rest
 
 -- a file that is taken of them is one that is chosen among all
 pub record IsChosenOf (partition : List ℕ) (kind : Bool) (list : WriteIds) (named : List DirFile) (file : DirFile) : Type 0 where

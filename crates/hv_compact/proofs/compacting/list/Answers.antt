@@ -3,7 +3,7 @@ use Rattle.hv_actor.specs.Acting.{among, known}
 use Rattle.hv_job_acts.specs.hv_acts.specs.hv_telling.specs.hv_house.specs.declared.listing.Listing.{Listing}
 use Rattle.hv_compact.specs.declared.fault.Stop.{Stop}
 use Rattle.hv_compact.specs.Compacting.{Works}
-use Rattle.hv_compact.proofs.Listings.{listed-works, unlisted-works}
+use Rattle.hv_compact.proofs.Listings.{listed-works, unlisted-works, listed-job}
 use Rattle.hv_compact.proofs.compacting.list.Goals as goal
 
 pub hold-requires-clause-few : goal.hold-requires-clause-few
@@ -20,3 +20,10 @@ returns-in-Err-clause-works g c =
     let b = (known (g.W.Actor.own c.hold.new.self) (g.W.Actor.house c.hold.new.self)) in
     subst (λ (why : Stop). Works {T = Listing} (among g.D.Shelf.told g.D.Shelf.faults g.W.Actor.between g.W.Actor.meanwhile) c.args.task.job a b (Err why)) (sym c.act_stop.ensures)
     (unlisted-works g.D.Shelf.told g.D.Shelf.faults g.W.Actor.between g.W.Actor.meanwhile g.met.W.Actor.goes_on a b c.requires.running c.args.task.job c.hold.result c.hold.ensures.held c.hold.ensures.went c.in-Err.why c.in-Err.is)
+
+pub returns-in-Ok-clause-listed : goal.returns-in-Ok-clause-listed
+returns-in-Ok-clause-listed g c is =
+    let a = (known (g.W.Actor.own c.args.actor.now) (g.W.Actor.house c.args.actor.now)) in
+    let b = (known (g.W.Actor.own c.hold.new.self) (g.W.Actor.house c.hold.new.self)) in
+    listed-job g.D.Shelf.told g.D.Shelf.faults g.W.Actor.between g.W.Actor.meanwhile g.met.W.Actor.goes_on a b c.requires.running c.args.task.job c.hold.result c.hold.ensures.held c.hold.ensures.went
+    c.args.task.kind c.args.task.low c.args.task.high c.in-Ok.listing c.in-Ok.is is c.requires.picked
