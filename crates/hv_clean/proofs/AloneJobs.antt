@@ -43,7 +43,7 @@ pub went-alone : (B : List TrailItem → Type 0) → AddsNothing B → (gained :
 went-alone B none gained own own' a b w = w.seen ∙ ap (λ (xs : List TrailItem). a ++ xs) (woven-alone B none (length a) w.placed w.added w.woven ∙ w.items)
 
 -- marks are no entries
-no-entries : (xs : List TrailItem) → AllByRecursion IsSwept xs → book_of xs ≡ []
+pub no-entries : (xs : List TrailItem) → AllByRecursion IsSwept xs → book_of xs ≡ []
 no-entries [] all = refl
 no-entries (Noted event ∷ xs) all = absurd all.0
 no-entries (Marked mark ∷ xs) all = no-entries xs all.1

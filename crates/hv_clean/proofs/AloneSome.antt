@@ -1,6 +1,7 @@
 -- Where others add nothing: whatever failed or was listed still, a pass cleans some of the free jobs and forgets some of the aborted ids.
 use Rattle.std.proofs.Common.{◌≡◌, ◌⊎◌, inl, inr, ℕ, ◌+◌, ◌<◌, Bool, true, false, Option, List, [], ◌∷◌, ◌++◌, map, filter, refl, sym, ap, ◌∙◌, subst, append-nil, append_assoc, arith}
 use Rattle.std.proofs.lemmas.List.{append_cancel_right}
+use Rattle.std.proofs.lemmas.List.Elements.{filter-append}
 use Rattle.std.specs.Prelude.{if◌then◌else◌}
 use Rattle.hv_base.specs.declared.ids.JobId.{JobId}
 use Rattle.hv_shelf.specs.Disk.{Store}
@@ -9,6 +10,7 @@ use Rattle.hv_history.specs.declared.entry.Entry.TheVariants as entry
 use Rattle.hv_history.specs.State.{State, numbered, after, state_of}
 use Rattle.hv_history.specs.Legal.{profile}
 use Rattle.hv_history.specs.JobsFit.{OfJob, CleanedFits}
+use Rattle.hv_history.specs.Lasting.{IsFront}
 use Rattle.hv_history.proofs.StateLaws.{state_of-snoc}
 use Rattle.hv_trail.specs.declared.trail.TrailItem.{TrailItem}
 use Rattle.hv_trail.specs.declared.trail.TrailItem.TheVariants.{Noted}
@@ -18,10 +20,12 @@ use Rattle.hv_job_acts.specs.hv_acts.specs.declared.told.ToldHouse.{ToldHouse}
 use Rattle.hv_job_acts.specs.hv_acts.specs.Told.{trail_in, book_in}
 use Rattle.hv_job_acts.specs.declared.asking.LostId.{LostId}
 use Rattle.hv_job_acts.specs.Work.{ready_in, lost_in}
+use Rattle.hv_clean.specs.declared.fault.PassFault.{PassFault}
 use Rattle.hv_clean.specs.declared.fault.Swept.{Swept}
-use Rattle.hv_clean.specs.Passing.{nothing, count_cleaned, count_forgotten, Asks, LeftOf, IdLeft, IsCleanedNow, IsForgottenNow, CleansOne, CleanEach, ForgetsOne, ForgetEach, ForgetsTable, ForgetTables, Passes, ids_of, last_table}
+use Rattle.hv_clean.specs.Passing.{nothing, count_cleaned, count_forgotten, Asks, SweepsLess, LeftOf, IdLeft, IsCleanedNow, IsForgottenNow, CleansOne, CleanEach, ForgetsOne, ForgetEach, ForgetsTable, ForgetTables, ForgetsAll, Passes, ids_of, last_table, lost_now}
+use Rattle.hv_clean.specs.Fronts.{TablesFront, IdsFront, RestFront, OverFront, PassFront, StopsBehind}
 use Rattle.hv_clean.specs.Alone.{AddsNothing, is_free, forgot_entry, AreSome, SweepsSome}
-use Rattle.hv_clean.proofs.AloneJobs.{Same, Pends, all-pend, pends-after, same-after, free-then, past-free, went-alone, book-adds, sweeps-book, asks-book}
+use Rattle.hv_clean.proofs.AloneJobs.{no-entries, Same, Pends, all-pend, pends-after, same-after, free-then, past-free, went-alone, book-adds, sweeps-book, asks-book}
 use Rattle.hv_clean.proofs.AloneIds.{flat, map-append}
 use Rattle.hv_clean.proofs.AloneAll.{flat-is, lost-same}
 
@@ -44,6 +48,36 @@ some-front (y ∷ some) [] rest are = absurd are
 some-front (y ∷ some) (x ∷ all) rest (inl same) = inl (same.0, some-front some all rest same.1)
 some-front (y ∷ some) (x ∷ all) rest (inr later) = inr (some-front (y ∷ some) all rest later)
 
+-- ---- fronts of jobs and of tables
+
+pub some-of-front : {T : Type 0} (p : T → Bool) (some turned all : List T) → IsFront turned all → AreSome some (filter p turned) → AreSome some (filter p all)
+some-of-front p some turned all front are =
+    subst (AreSome some) (sym (ap (filter p) front.is ∙ filter-append p turned front.more)) (some-front some (filter p turned) (filter p front.more) are)
+
+pends-front : (s0 s : State) (low : ℕ) (xs ys : List JobId) → Pends s0 s low (xs ++ ys) → Pends s0 s low xs
+pends-front s0 s low [] ys pends = tt
+pends-front s0 s low (x ∷ xs) ys pends = (pends.0, pends.1, pends.2, pends-front s0 s (x.0 + 1) xs ys pends.3)
+
+-- the front of those that are listed pends
+turned-pend : (s0 : State) (turned : List JobId) → IsFront turned (ready_in s0) → Pends s0 s0 1 turned
+turned-pend s0 turned front = pends-front s0 s0 1 turned front.more (subst (Pends s0 s0 1) front.is (all-pend s0))
+
+flat-append : (xs ys : List ℕ) (ids : List LostId) → flat (xs ++ ys) ids ≡ flat xs ids ++ flat ys ids
+flat-append [] ys ids = refl
+flat-append (table ∷ xs) ys ids =
+    ap (λ (more : List LostId). ids_of table ids ++ more) (flat-append xs ys ids) ∙ sym (append_assoc (ids_of table ids) (flat xs ids) (flat ys ids))
+
+-- with one before them, by whether it is free
+skip-one : (s0 : State) (id : JobId) (ids jobs : List JobId) (b : Bool) → AreSome jobs (filter (is_free s0) ids)
+    → AreSome jobs (if b then id ∷ filter (is_free s0) ids else filter (is_free s0) ids)
+skip-one s0 id ids jobs true some = some-skip jobs id (filter (is_free s0) ids) some
+skip-one s0 id ids jobs false some = some
+
+take-one : (s0 : State) (id : JobId) (ids jobs : List JobId) (b : Bool) → b ≡ true → AreSome jobs (filter (is_free s0) ids)
+    → AreSome (id ∷ jobs) (if b then id ∷ filter (is_free s0) ids else filter (is_free s0) ids)
+take-one s0 id ids jobs true is some = inl (refl, some)
+take-one s0 id ids jobs false is some = let no_ : false ≡ true = is in cc
+
 module _ {D : Type 0} (told : D → Option Store) (faults : D → ℕ) (B : List TrailItem → Type 0) (rows : AreRows B) (meanwhile : ToldHouse D → ToldHouse D → Type 0)
     (none : AddsNothing B) where
   abbrev S : Setting D (ToldHouse D)
@@ -51,6 +85,12 @@ module _ {D : Type 0} (told : D → Option Store) (faults : D → ℕ) (B : List
 
   abbrev M : Type 0
   M = Moment (ToldHouse D)
+
+  -- a part that ends the pass added marks alone
+  pub less-book : (a b : M) (why : PassFault) → SweepsLess S a b why → book_in b.house ≡ book_in a.house
+  less-book a b why less =
+      book-adds told faults B rows meanwhile none a b less.items less.adds
+      ∙ ap (λ (xs : List Entry). book_in a.house ++ xs) (no-entries less.items less.each) ∙ append-nil (book_in a.house)
 
   -- ---- jobs
 
@@ -91,17 +131,6 @@ module _ {D : Type 0} (told : D → Option Store) (faults : D → ℕ) (B : List
     pub some : AreSome jobs (filter (is_free s0) ids)
     pub book : book_in b.house ≡ book_in a.house ++ map entry.Cleaned jobs
     pub same : Same s0 (state_of (book_in b.house))
-
-  -- with one before them, by whether it is free
-  skip-one : (s0 : State) (id : JobId) (ids jobs : List JobId) (b : Bool) → AreSome jobs (filter (is_free s0) ids)
-      → AreSome jobs (if b then id ∷ filter (is_free s0) ids else filter (is_free s0) ids)
-  skip-one s0 id ids jobs true some = some-skip jobs id (filter (is_free s0) ids) some
-  skip-one s0 id ids jobs false some = some
-
-  take-one : (s0 : State) (id : JobId) (ids jobs : List JobId) (b : Bool) → b ≡ true → AreSome jobs (filter (is_free s0) ids)
-      → AreSome (id ∷ jobs) (if b then id ∷ filter (is_free s0) ids else filter (is_free s0) ids)
-  take-one s0 id ids jobs true is some = inl (refl, some)
-  take-one s0 id ids jobs false is some = let no_ : false ≡ true = is in cc
 
   pub each-some : (s0 : State) (a b : M) (ids : List JobId) (low : ℕ) (f t : Swept) → CleanEach S a b ids f t → Same s0 (state_of (book_in a.house))
       → Pends s0 (state_of (book_in a.house)) low ids → CleansSome s0 a b ids
@@ -211,8 +240,19 @@ module _ {D : Type 0} (told : D → Option Store) (faults : D → ℕ) (B : List
 
   -- ---- a whole pass
 
+  -- jobs alone
+  jobs-some : (start b : M) (turned : List JobId) → IsFront turned (ready_in (state_of (book_in start.house)))
+      → CleansSome (state_of (book_in start.house)) start b turned → SweepsSome (book_in start.house) (book_in b.house)
+  jobs-some start b turned front cleaned = record {
+    jobs = cleaned.jobs;
+    ids = [];
+    are_free = some-of-front (is_free (state_of (book_in start.house))) cleaned.jobs turned (ready_in (state_of (book_in start.house))) front cleaned.some;
+    are_lost = tt;
+    goes = cleaned.book ∙ ap (λ (es : List Entry). book_in start.house ++ es) (sym (append-nil (map entry.Cleaned cleaned.jobs)));
+  }
+
   -- jobs, and then ids of the book behind them
-  pub sweeps-some : (start left ids behind : M) (jobs : CleansSome (state_of (book_in start.house)) start left (ready_in (state_of (book_in start.house))))
+  sweeps-some : (start left ids behind : M) (jobs : CleansSome (state_of (book_in start.house)) start left (ready_in (state_of (book_in start.house))))
       → book_in ids.house ≡ book_in left.house → ForgetsSome ids behind (lost_in (state_of (book_in ids.house)))
       → SweepsSome (book_in start.house) (book_in behind.house)
   sweeps-some start left ids behind jobs asked forgotten =
@@ -229,22 +269,104 @@ module _ {D : Type 0} (told : D → Option Store) (faults : D → ℕ) (B : List
             ∙ append_assoc (book_in start.house) (map entry.Cleaned jobs.jobs) (map forgot_entry forgotten.ids);
       }
 
+  -- of those that the first hold listed
+  turns-some : (start b : M) (turned : List JobId) (t : Swept) → IsFront turned (ready_in (state_of (book_in start.house))) → CleanEach S start b turned nothing t
+      → CleansSome (state_of (book_in start.house)) start b turned
+  turns-some start b turned t front each =
+      each-some (state_of (book_in start.house)) start b turned 1 nothing t each (record { transactions = refl; tables = refl })
+      (turned-pend (state_of (book_in start.house)) turned front)
+
+  all-turned : (start : M) → IsFront (ready_in (state_of (book_in start.house))) (ready_in (state_of (book_in start.house)))
+  all-turned start = record { more = []; is = sym (append-nil (ready_in (state_of (book_in start.house)))) }
+
+  -- of the ids that a hold listed
+  listed-some : (ids b : M) (f t : Swept) → ForgetTables S ids b (numbers_from 1 (last_table (lost_now ids.house))) (lost_now ids.house) f t
+      → ForgetsSome ids b (lost_in (state_of (book_in ids.house)))
+  listed-some ids b f t each =
+      subst (ForgetsSome ids b) (flat-is (state_of (book_in ids.house)))
+      (tables-some ids b (numbers_from 1 (last_table (lost_now ids.house))) (lost_now ids.house) f t each)
+
+  -- of some front of them
+  tables-front : (a b : M) (tables : List ℕ) (ids : List LostId) (f : Swept) → TablesFront S tables ids f a b → ForgetsSome a b (flat tables ids)
+  tables-front a b tables ids f came =
+      let first : ForgetsSome a came.left (flat came.turned ids) = tables-some a came.left came.turned ids f came.swept came.turns in
+      let next : ForgetsSome came.left b came.its.turned = each-forget came.left b came.its.turned came.swept came.its.swept came.its.turns in
+      let its : AreSome next.ids (ids_of came.table ids) =
+      subst (AreSome next.ids) (sym came.its.front.is) (some-front next.ids came.its.turned came.its.front.more next.some) in
+      let both : AreSome (first.ids ++ next.ids) (flat (came.turned ++ came.table ∷ []) ids) =
+      subst (AreSome (first.ids ++ next.ids)) (sym (flat-append came.turned (came.table ∷ []) ids))
+      (some-append first.ids next.ids (flat came.turned ids) (ids_of came.table ids ++ []) first.some (some-front next.ids (ids_of came.table ids) [] its)) in
+      let all : flat tables ids ≡ flat (came.turned ++ came.table ∷ []) ids ++ flat came.front.more ids =
+      ap (λ (xs : List ℕ). flat xs ids) came.front.is ∙ flat-append (came.turned ++ came.table ∷ []) came.front.more ids in
+      record {
+        ids = first.ids ++ next.ids;
+        some = subst (AreSome (first.ids ++ next.ids)) (sym all)
+            (some-front (first.ids ++ next.ids) (flat (came.turned ++ came.table ∷ []) ids) (flat came.front.more ids) both);
+        book = next.book
+            ∙ ap (λ (xs : List Entry). xs ++ map forgot_entry next.ids) first.book
+            ∙ append_assoc (book_in a.house) (map forgot_entry first.ids) (map forgot_entry next.ids)
+            ∙ ap (λ (es : List Entry). book_in a.house ++ es) (sym (map-append forgot_entry first.ids next.ids));
+      }
+
+  -- a part behind it left the book as it was
+  some-same : (start b c : M) → book_in c.house ≡ book_in b.house → SweepsSome (book_in start.house) (book_in b.house)
+      → SweepsSome (book_in start.house) (book_in c.house)
+  some-same start b c same some = subst (SweepsSome (book_in start.house)) (sym same) some
+
+  -- a part before it did
+  same-some : (a start b : M) → book_in start.house ≡ book_in a.house → SweepsSome (book_in start.house) (book_in b.house)
+      → SweepsSome (book_in a.house) (book_in b.house)
+  same-some a start b same some = subst (λ (book : List Entry). SweepsSome book (book_in b.house)) same some
+
+  all-forgotten : (start left b : M) (f t : Swept) → CleansSome (state_of (book_in start.house)) start left (ready_in (state_of (book_in start.house)))
+      → ForgetsAll S left b f t → SweepsSome (book_in start.house) (book_in b.house)
+  all-forgotten start left b f t jobs all =
+      sweeps-some start left all.start b jobs (asks-book told faults B rows meanwhile none left all.start all.asks) (listed-some all.start b f t all.ids)
+
   pub passes-some : (before now : M) (t : Swept) → Passes S before now t → SweepsSome (book_in before.house) (book_in now.house)
   passes-some before now t pass =
-      let s1 : State = state_of (book_in pass.over.rest.ids.start.house) in
-      let jobs : CleansSome (state_of (book_in pass.start.house)) pass.start pass.over.left (ready_in (state_of (book_in pass.start.house))) =
-      each-some (state_of (book_in pass.start.house)) pass.start pass.over.left (ready_in (state_of (book_in pass.start.house))) 1 nothing pass.over.swept pass.over.turns
-      (record { transactions = refl; tables = refl }) (all-pend (state_of (book_in pass.start.house))) in
-      let asked : book_in pass.over.rest.ids.start.house ≡ book_in pass.over.left.house =
-      asks-book told faults B rows meanwhile none pass.over.left pass.over.rest.ids.start pass.over.rest.ids.asks in
-      let forgotten : ForgetsSome pass.over.rest.ids.start pass.over.rest.left (flat (numbers_from 1 (last_table (lost_in s1))) (lost_in s1)) =
-      tables-some pass.over.rest.ids.start pass.over.rest.left (numbers_from 1 (last_table (lost_in s1))) (lost_in s1) pass.over.swept pass.over.rest.swept
-      pass.over.rest.ids.ids in
-      let there : ForgetsSome pass.over.rest.ids.start pass.over.rest.left (lost_in s1) =
-      subst (ForgetsSome pass.over.rest.ids.start pass.over.rest.left) (flat-is s1) forgotten in
-      let first : book_in pass.start.house ≡ book_in before.house = asks-book told faults B rows meanwhile none before pass.start pass.asks in
-      let last : book_in now.house ≡ book_in pass.over.rest.left.house =
-      sweeps-book told faults B rows meanwhile none pass.over.rest.left now pass.over.rest.swept t pass.over.rest.sweeps in
-      subst (λ (book : List Entry). SweepsSome book (book_in now.house)) first
-      (subst (SweepsSome (book_in pass.start.house)) (sym last)
-      (sweeps-some pass.start pass.over.left pass.over.rest.ids.start pass.over.rest.left jobs asked there))
+      same-some before pass.start now (asks-book told faults B rows meanwhile none before pass.start pass.asks)
+      (some-same pass.start pass.over.rest.left now
+      (sweeps-book told faults B rows meanwhile none pass.over.rest.left now pass.over.rest.swept t pass.over.rest.sweeps)
+      (all-forgotten pass.start pass.over.left pass.over.rest.left pass.over.swept pass.over.rest.swept
+      (turns-some pass.start pass.over.left (ready_in (state_of (book_in pass.start.house))) pass.over.swept (all-turned pass.start) pass.over.turns)
+      pass.over.rest.ids))
+
+  -- ---- a pass that stops
+
+  ids-front : (start left b : M) (f : Swept) → CleansSome (state_of (book_in start.house)) start left (ready_in (state_of (book_in start.house)))
+      → IdsFront S f left b → SweepsSome (book_in start.house) (book_in b.house)
+  ids-front start left b f jobs (inl asks) =
+      some-same start left b (asks-book told faults B rows meanwhile none left b asks)
+      (jobs-some start left (ready_in (state_of (book_in start.house))) (all-turned start) jobs)
+  ids-front start left b f jobs (inr came) =
+      sweeps-some start left came.0 b jobs (asks-book told faults B rows meanwhile none left came.0 came.1)
+      (subst (ForgetsSome came.0 b) (flat-is (state_of (book_in came.0.house)))
+      (tables-front came.0 b (numbers_from 1 (last_table (lost_now came.0.house))) (lost_now came.0.house) f came.2))
+
+  rest-front : (start left b : M) (f : Swept) → CleansSome (state_of (book_in start.house)) start left (ready_in (state_of (book_in start.house)))
+      → RestFront S f left b → SweepsSome (book_in start.house) (book_in b.house)
+  rest-front start left b f jobs (inl ids) = ids-front start left b f jobs ids
+  rest-front start left b f jobs (inr all) = all-forgotten start left b f all.0 jobs all.1
+
+  over-front : (start b : M) → OverFront S (ready_in (state_of (book_in start.house))) start b → SweepsSome (book_in start.house) (book_in b.house)
+  over-front start b (inl came) = jobs-some start b came.turned came.front (turns-some start b came.turned came.swept came.front came.turns)
+  over-front start b (inr came) =
+      rest-front start came.0 b came.1
+      (turns-some start came.0 (ready_in (state_of (book_in start.house))) came.1 (all-turned start) came.2) came.3
+
+  pass-front : (a b : M) → PassFront S a b → SweepsSome (book_in a.house) (book_in b.house)
+  pass-front a b (inl asks) = record {
+    jobs = [];
+    ids = [];
+    are_free = tt;
+    are_lost = tt;
+    goes = asks-book told faults B rows meanwhile none a b asks ∙ sym (append-nil (book_in a.house));
+  }
+  pass-front a b (inr came) = same-some a came.0 b (asks-book told faults B rows meanwhile none a came.0 came.1) (over-front came.0 b came.2)
+
+  -- and behind it marks alone
+  pub stops-some : (a b : M) (why : PassFault) → StopsBehind S (PassFront S) a b why → SweepsSome (book_in a.house) (book_in b.house)
+  stops-some a b why stops =
+      let same : book_in b.house ≡ book_in stops.left.house = less-book stops.left b why stops.less in
+      some-same a stops.left b same (pass-front a stops.left stops.front)

@@ -16,7 +16,8 @@ use Rattle.hv_compact.specs.Stopping.{IsAsking, IsPicking, IsOfJob, RunsOut}
 use Rattle.hv_compact.specs.Initiating.{InitiatesLess}
 use Rattle.hv_compact.specs.Compacting.{IsPickedThen, StopsIn, StopsWith}
 use Rattle.hv_clean.specs.declared.fault.PassFault.{PassFault}
-use Rattle.hv_clean.specs.Passing.{SweepsLess, IsCleaning as IsSweeping}
+use Rattle.hv_clean.specs.Passing.{IsCleaning as IsSweeping}
+use Rattle.hv_clean.specs.Fronts.{PassFront, StopsBehind}
 use Rattle.hv_program.specs.Background.{IsCompacting, IsCleaning}
 use Rattle.hv_program.specs.Beside.{fault_of, run_of, AddsBeside, StopsBeside}
 use Rattle.hv_program.proofs.Passed.{asked-some, swept-some, cleans-cut, cleans-lacking}
@@ -64,7 +65,7 @@ module _ {D : Type 0} (told : D → Option Store) (faults : D → ℕ) (own own'
       (λ is. one-cut s.items s.picked adds (subst (StopsIn Lonely now s.items) is s.stops))
       (λ is. one-lacking s.items s.picked adds (subst (StopsIn Lonely now s.items) is s.stops))
 
-  pub swept-stopped : (ended : PassFault) → why ≡ run_of ended → SweepsLess Lonely A B ended → IfErr q (λ w. StopsBeside told IsCleaning w before.house now.house)
+  pub swept-stopped : (ended : PassFault) → why ≡ run_of ended → StopsBehind Lonely (PassFront Lonely) A B ended → IfErr q (λ w. StopsBeside told IsCleaning w before.house now.house)
   swept-stopped ended is less =
       let adds : AddsBeside IsCleaning (entries_of before.house) (entries_of now.house) = swept-some told faults own own' before now ended less in
       stops-run told faults IsCleaning before now adds later kept begun why q same

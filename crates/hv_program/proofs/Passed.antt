@@ -1,7 +1,8 @@
 -- What a pass leaves over a house on which nobody else acts.
-use Rattle.std.proofs.Common.{◌≡◌, ◌≤◌, inl, inr, ℕ, zero, suc, Option, Some, None, Result, Ok, Err, IfOk, IfErr, List, [], ◌∷◌, ◌++◌, take, drop, refl, sym, ap, ◌∙◌, subst, append-nil, append_assoc, arith}
+use Rattle.std.proofs.Common.{◌≡◌, ◌≤◌, inl, inr, ℕ, zero, suc, Option, Some, None, Result, Ok, Err, IfOk, IfErr, List, [], ◌∷◌, ◌++◌, map, take, drop, refl, sym, ap, ◌∙◌, subst, append-nil, append_assoc, arith}
 use Rattle.std.specs.List.{AllByRecursion}
 use Rattle.hv_base.specs.Faults.{Rose}
+use Rattle.hv_base.specs.declared.ids.JobId.{JobId}
 use Rattle.hv_shelf.specs.Disk.{Store}
 use Rattle.hv_history.specs.declared.entry.Entry.{Entry}
 use Rattle.hv_history.specs.declared.entry.Entry.TheVariants as entry
@@ -11,9 +12,7 @@ use Rattle.hv_history.specs.Lasting.{IsFront}
 use Rattle.hv_history.specs.State.{state_of}
 use Rattle.hv_trail.specs.declared.trail.TrailItem.{TrailItem}
 use Rattle.hv_trail.specs.Steps.{Call}
-use Rattle.hv_trail.specs.declared.trail.TrailItem.TheVariants.{Noted, Marked}
 use Rattle.hv_trail.specs.Trail.{book_of}
-use Rattle.hv_trail.proofs.LastingLaws.{book-append}
 use Rattle.hv_actor.specs.Acting.{IsLater, Nothing, Untouched, Setting, Moment, among, known}
 use Rattle.hv_actor.specs.Rows.{nothing_rows}
 use Rattle.hv_actor.proofs.Weaving.{later-further}
@@ -30,6 +29,7 @@ use Rattle.hv_session.specs.hv_beginning.specs.hv_steps.specs.hv_table_reader.sp
 use Rattle.hv_session.specs.hv_beginning.specs.hv_steps.specs.hv_table_reader.specs.hv_acts.specs.hv_telling.specs.Telling.{IsToldHouse, StillOpens}
 use Rattle.hv_session.specs.hv_beginning.specs.hv_steps.specs.hv_table_reader.specs.hv_acts.specs.hv_telling.proofs.Told.{told-stays}
 use Rattle.hv_compact.specs.hv_job_acts.specs.declared.asking.PartAt.{PartAt}
+use Rattle.hv_compact.specs.hv_job_acts.specs.declared.asking.LostId.{LostId}
 use Rattle.hv_compact.specs.hv_job_acts.specs.Going.{AddsItems, IsShutFor as IsShutBy}
 use Rattle.hv_compact.specs.hv_job_acts.specs.Work.{parts_in}
 use Rattle.hv_compact.specs.declared.fault.RunFault.{RunFault}
@@ -37,14 +37,14 @@ use Rattle.hv_compact.specs.declared.fault.RunFault.TheVariants as run
 use Rattle.hv_compact.specs.Stopping.{IsAsking, IsFullFor, RunsOut}
 use Rattle.hv_compact.specs.Initiating.{asks_kind, asks_for, AreTurns, Initiates, InitiatesLess}
 use Rattle.hv_compact.specs.Alone.{initiated_from}
-use Rattle.hv_compact.proofs.Alones.{alone-added, turned-alone}
+use Rattle.hv_compact.proofs.Alones.{turned-alone}
 use Rattle.hv_clean.specs.declared.fault.Swept.{Swept}
 use Rattle.hv_clean.specs.declared.fault.PassFault.{PassFault}
 use Rattle.hv_clean.specs.declared.fault.PassFault.TheVariants as pass
-use Rattle.hv_clean.specs.Passing.{IsPassed, SweepsLess, Passes, IsCleaning as IsSweeping, RunsOut as CleansOut}
-use Rattle.hv_clean.specs.Alone.{SweepsSome}
-use Rattle.hv_clean.proofs.Moved.{moves-pass}
-use Rattle.hv_clean.proofs.AloneSome.{passes-some}
+use Rattle.hv_clean.specs.Passing.{Passes, IsCleaning as IsSweeping, RunsOut as CleansOut}
+use Rattle.hv_clean.specs.Fronts.{PassFront, StopsBehind}
+use Rattle.hv_clean.specs.Alone.{forgot_entry, SweepsSome}
+use Rattle.hv_clean.proofs.AloneSome.{passes-some, stops-some}
 use Rattle.hv_program.specs.Background.{LacksRoomFor, IsCompacting, IsCleaning, Initiated, Cleans}
 use Rattle.hv_program.specs.Beside.{fault_of, run_of, AddsBeside}
 use Rattle.hv_program.specs.Stops.{IsShutFor}
@@ -223,67 +223,64 @@ module _ {D : Type 0} (told : D → Option Store) (faults : D → ℕ) (own own'
 
 -- ---- a pass of a cleaner
 
-passed-kind : (items : List TrailItem) → AllByRecursion IsPassed items → AllByRecursion IsCleaning (book_of items)
-passed-kind [] all = tt
-passed-kind (Noted (entry.Cleaned job) ∷ items) all = (tt, passed-kind items all.1)
-passed-kind (Noted (entry.Forgot table write) ∷ items) all = (tt, passed-kind items all.1)
-passed-kind (Noted event ∷ items) all = absurd all.0
-passed-kind (Marked mark ∷ items) all = passed-kind items all.1
+cleaned-kind : (jobs : List JobId) (ids : List LostId) → AllByRecursion IsCleaning (map entry.Cleaned jobs ++ map forgot_entry ids)
+cleaned-kind [] [] = tt
+cleaned-kind [] (id ∷ ids) = (tt, cleaned-kind [] ids)
+cleaned-kind (job ∷ jobs) ids = (tt, cleaned-kind jobs ids)
+
+pub cleans-beside : (before now : List Entry) → Cleans before now → AddsBeside IsCleaning before now
+cleans-beside before now c = record { added = map entry.Cleaned c.jobs ++ map forgot_entry c.ids; book = c.goes; of_it = cleaned-kind c.jobs c.ids }
 
 module _ {D : Type 0} (told : D → Option Store) (faults : D → ℕ) (own own' : List ℕ) (before now : ToldHouse D) where
   abbrev Lonely : Setting D (ToldHouse D)
   Lonely = among told faults Nothing Untouched
 
-  swept-gained : (items : List TrailItem) → AddsItems faults Nothing (known own before) (known own' now) items
-      → entries_of now.house ≡ entries_of before.house ++ book_of items
-  swept-gained items adds =
-      sym (book-is now.house)
-      ∙ ap book_of (alone-added faults Nothing nothing-is-added (known own before) (known own' now) items adds)
-      ∙ book-append (trail_in before) items
-      ∙ ap (λ (book : List Entry). book ++ book_of items) (book-is before.house)
+  abbrev Came : PassFault → Type 0
+  Came why = StopsBehind Lonely (PassFront Lonely) (known own before) (known own' now) why
 
-  pub swept-beside : (swept : Swept) → Passes Lonely (known own before) (known own' now) swept
-      → AddsBeside IsCleaning (entries_of before.house) (entries_of now.house)
-  swept-beside swept pass =
-      let moves = moves-pass told faults Nothing nothing_rows Untouched (known own before) (known own' now) swept pass in
-      record { added = book_of moves.items; book = swept-gained moves.items moves.adds; of_it = passed-kind moves.items moves.each }
+  in-books : SweepsSome (book_in before) (book_in now) → Cleans (entries_of before.house) (entries_of now.house)
+  in-books some =
+      subst (λ (book : List Entry). SweepsSome book (entries_of now.house)) (book-is before.house)
+      (subst (SweepsSome (book_in before)) (book-is now.house) some)
 
   pub swept-done : (swept : Swept) → Passes Lonely (known own before) (known own' now) swept → Cleans (entries_of before.house) (entries_of now.house)
   swept-done swept pass =
-      subst (λ (book : List Entry). SweepsSome book (entries_of now.house)) (book-is before.house)
-      (subst (SweepsSome (book_in before)) (book-is now.house)
-      (passes-some told faults Nothing nothing_rows Untouched nothing-is-added (known own before) (known own' now) swept pass))
+      in-books (passes-some told faults Nothing nothing_rows Untouched nothing-is-added (known own before) (known own' now) swept pass)
 
-  pub swept-some : (why : PassFault) → SweepsLess Lonely (known own before) (known own' now) why
+  pub swept-less : (why : PassFault) → Came why → Cleans (entries_of before.house) (entries_of now.house)
+  swept-less why came =
+      in-books (stops-some told faults Nothing nothing_rows Untouched nothing-is-added (known own before) (known own' now) why came)
+
+  pub swept-beside : (swept : Swept) → Passes Lonely (known own before) (known own' now) swept
       → AddsBeside IsCleaning (entries_of before.house) (entries_of now.house)
-  swept-some why s = record { added = book_of s.items; book = swept-gained s.items s.adds; of_it = passed-kind s.items s.each }
+  swept-beside swept pass = cleans-beside (entries_of before.house) (entries_of now.house) (swept-done swept pass)
 
-  pub cleans-open : (why : PassFault) → SweepsLess Lonely (known own before) (known own' now) why → (r : RunFault) → r ≡ run_of why → (entries : ℕ) → r ≡ run.Full entries
-      → IsOpenHouse now
-  cleans-open why s r same entries is = by why s.stops (sym same ∙ is)
+  pub swept-some : (why : PassFault) → Came why → AddsBeside IsCleaning (entries_of before.house) (entries_of now.house)
+  swept-some why came = cleans-beside (entries_of before.house) (entries_of now.house) (swept-less why came)
+
+  pub cleans-open : (why : PassFault) → Came why → (r : RunFault) → r ≡ run_of why → (entries : ℕ) → r ≡ run.Full entries → IsOpenHouse now
+  cleans-open why came r same entries is = by why came.less.stops (sym same ∙ is)
     where
       by : (w : PassFault) → CleansOut Lonely now w → run_of w ≡ run.Full entries → IsOpenHouse now
       by pass.Store stops e = let no_ : run.Store ≡ run.Full entries = e in cc
       by (pass.Full count) stops e = stops
       by pass.NoMemory stops e = let no_ : run.NoMemory ≡ run.Full entries = e in cc
 
-  pub cleans-cut : (why : PassFault) → SweepsLess Lonely (known own before) (known own' now) why → (r : RunFault) → r ≡ run_of why → r ≡ run.Store
-      → IsShutBy Lonely IsSweeping now
-  cleans-cut why s r same is = by why s.stops (sym same ∙ is)
+  pub cleans-cut : (why : PassFault) → Came why → (r : RunFault) → r ≡ run_of why → r ≡ run.Store → IsShutBy Lonely IsSweeping now
+  cleans-cut why came r same is = by why came.less.stops (sym same ∙ is)
     where
       by : (w : PassFault) → CleansOut Lonely now w → run_of w ≡ run.Store → IsShutBy Lonely IsSweeping now
       by pass.Store stops e = stops
       by (pass.Full count) stops e = let no_ : run.Full count ≡ run.Store = e in cc
       by pass.NoMemory stops e = let no_ : run.NoMemory ≡ run.Store = e in cc
 
-  pub cleans-lacking : (why : PassFault) → SweepsLess Lonely (known own before) (known own' now) why → (r : RunFault) → r ≡ run_of why → r ≡ run.NoMemory
-      → IsOpenHouse now
-  cleans-lacking why s r same is = by why s.stops (sym same ∙ is)
+  pub cleans-lacking : (why : PassFault) → Came why → (r : RunFault) → r ≡ run_of why → r ≡ run.NoMemory → IsOpenHouse now
+  cleans-lacking why came r same is = by why came.less.stops (sym same ∙ is)
     where
       by : (w : PassFault) → CleansOut Lonely now w → run_of w ≡ run.NoMemory → IsOpenHouse now
       by pass.Store stops e = let no_ : run.Store ≡ run.NoMemory = e in cc
       by (pass.Full count) stops e = let no_ : run.Full count ≡ run.NoMemory = e in cc
       by pass.NoMemory stops e = stops
 
-  pub cleans-shut : (why : PassFault) → SweepsLess Lonely (known own before) (known own' now) why → (r : RunFault) → r ≡ run_of why → r ≡ run.Store → IsShutHouse now
-  cleans-shut why s r same is = shut-house told faults IsSweeping now (cleans-cut why s r same is)
+  pub cleans-shut : (why : PassFault) → Came why → (r : RunFault) → r ≡ run_of why → r ≡ run.Store → IsShutHouse now
+  cleans-shut why came r same is = shut-house told faults IsSweeping now (cleans-cut why came r same is)

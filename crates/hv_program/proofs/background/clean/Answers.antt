@@ -2,11 +2,11 @@ use Rattle.hv_actor.specs.Acting.{IsLater, own_alone}
 use Rattle.hv_session.specs.hv_beginning.specs.hv_steps.specs.hv_table_reader.specs.hv_acts.specs.Told.{seen_in}
 use Rattle.hv_session.specs.hv_beginning.specs.hv_steps.specs.hv_table_reader.specs.hv_acts.specs.hv_telling.specs.hv_house.specs.House.{entries_of}
 use Rattle.hv_session.specs.hv_beginning.specs.hv_steps.specs.hv_table_reader.specs.hv_acts.specs.hv_telling.specs.Telling.{IsWhole, StillOpens}
-use Rattle.hv_program.specs.Background.{IsCleaning}
+use Rattle.hv_program.specs.Background.{IsCleaning, Cleans}
 use Rattle.hv_program.specs.Beside.{AddsBeside}
 use Rattle.hv_program.proofs.Sessions.{is-kept, shuts-kept}
 use Rattle.hv_program.proofs.Leaves.{swept-stopped}
-use Rattle.hv_program.proofs.Passed.{ok-of, err-of, full-ok, stops-err, start-same, still-opens, stops-shut, stops-cause, done-cause, swept-beside, swept-done, swept-some, cleans-open, cleans-shut}
+use Rattle.hv_program.proofs.Passed.{ok-of, err-of, full-ok, stops-err, start-same, still-opens, stops-shut, stops-cause, done-cause, swept-beside, swept-done, swept-less, swept-some, cleans-open, cleans-shut}
 use Rattle.hv_program.proofs.background.clean.Goals as goal
 
 pub clean_pass-requires-clause-keeps : goal.clean_pass-requires-clause-keeps
@@ -93,3 +93,9 @@ pub returns-in-Ok-clause-done : goal.returns-in-Ok-clause-done
 returns-in-Ok-clause-done g c =
     swept-done g.D.Shelf.told g.D.Shelf.faults (own_alone (seen_in c.args.house.now)) (own_alone (seen_in c.clean_pass.new.actor)) c.args.house.now c.clean_pass.new.actor c.in-Ok._swept
     (ok-of c.clean_pass.result _ c.in-Ok._swept c.in-Ok.is c.clean_pass.ensures.passes)
+
+pub returns-in-Err-clause-done : goal.returns-in-Err-clause-done
+returns-in-Err-clause-done g c =
+    full-ok c.run_of.result c.fault_of.result (Cleans (entries_of c.args.house.now.house) (entries_of c.clean_pass.new.actor.house)) c.fault_of.ensures
+    (λ entries is. swept-less g.D.Shelf.told g.D.Shelf.faults (own_alone (seen_in c.args.house.now)) (own_alone (seen_in c.clean_pass.new.actor)) c.args.house.now c.clean_pass.new.actor c.in-Err.why
+    (err-of c.clean_pass.result _ c.in-Err.why c.in-Err.is c.clean_pass.ensures.less))
