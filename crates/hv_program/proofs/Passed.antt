@@ -40,7 +40,7 @@ use Rattle.hv_compact.specs.Alone.{initiated_from}
 use Rattle.hv_compact.proofs.Alones.{turned-alone}
 use Rattle.hv_clean.specs.declared.fault.Swept.{Swept}
 use Rattle.hv_clean.specs.declared.fault.PassFault.{PassFault}
-use Rattle.hv_clean.specs.declared.fault.PassFault.TheVariants as pass
+use Rattle.hv_clean.specs.declared.fault.PassFault.TheVariants as pass_fault
 use Rattle.hv_clean.specs.Passing.{Passes, IsCleaning as IsSweeping, RunsOut as CleansOut}
 use Rattle.hv_clean.specs.Fronts.{PassFront, StopsBehind}
 use Rattle.hv_clean.specs.Alone.{forgot_entry, SweepsSome}
@@ -262,25 +262,25 @@ module _ {D : Type 0} (told : D → Option Store) (faults : D → ℕ) (own own'
   cleans-open why came r same entries is = by why came.less.stops (sym same ∙ is)
     where
       by : (w : PassFault) → CleansOut Lonely now w → run_of w ≡ run.Full entries → IsOpenHouse now
-      by pass.Store stops e = let no_ : run.Store ≡ run.Full entries = e in cc
-      by (pass.Full count) stops e = stops
-      by pass.NoMemory stops e = let no_ : run.NoMemory ≡ run.Full entries = e in cc
+      by pass_fault.Store stops e = let no_ : run.Store ≡ run.Full entries = e in cc
+      by (pass_fault.Full count) stops e = stops
+      by pass_fault.NoMemory stops e = let no_ : run.NoMemory ≡ run.Full entries = e in cc
 
   pub cleans-cut : (why : PassFault) → Came why → (r : RunFault) → r ≡ run_of why → r ≡ run.Store → IsShutBy Lonely IsSweeping now
   cleans-cut why came r same is = by why came.less.stops (sym same ∙ is)
     where
       by : (w : PassFault) → CleansOut Lonely now w → run_of w ≡ run.Store → IsShutBy Lonely IsSweeping now
-      by pass.Store stops e = stops
-      by (pass.Full count) stops e = let no_ : run.Full count ≡ run.Store = e in cc
-      by pass.NoMemory stops e = let no_ : run.NoMemory ≡ run.Store = e in cc
+      by pass_fault.Store stops e = stops
+      by (pass_fault.Full count) stops e = let no_ : run.Full count ≡ run.Store = e in cc
+      by pass_fault.NoMemory stops e = let no_ : run.NoMemory ≡ run.Store = e in cc
 
   pub cleans-lacking : (why : PassFault) → Came why → (r : RunFault) → r ≡ run_of why → r ≡ run.NoMemory → IsOpenHouse now
   cleans-lacking why came r same is = by why came.less.stops (sym same ∙ is)
     where
       by : (w : PassFault) → CleansOut Lonely now w → run_of w ≡ run.NoMemory → IsOpenHouse now
-      by pass.Store stops e = let no_ : run.Store ≡ run.NoMemory = e in cc
-      by (pass.Full count) stops e = let no_ : run.Full count ≡ run.NoMemory = e in cc
-      by pass.NoMemory stops e = stops
+      by pass_fault.Store stops e = let no_ : run.Store ≡ run.NoMemory = e in cc
+      by (pass_fault.Full count) stops e = let no_ : run.Full count ≡ run.NoMemory = e in cc
+      by pass_fault.NoMemory stops e = stops
 
   pub cleans-shut : (why : PassFault) → Came why → (r : RunFault) → r ≡ run_of why → r ≡ run.Store → IsShutHouse now
   cleans-shut why came r same is = shut-house told faults IsSweeping now (cleans-cut why came r same is)

@@ -14,7 +14,7 @@ use Rattle.hv_session.specs.hv_beginning.specs.hv_steps.specs.declared.ready.Rep
 use Rattle.hv_compact.specs.declared.fault.RunFault.{RunFault}
 use Rattle.hv_compact.specs.declared.fault.RunFault.TheVariants as run
 use Rattle.hv_clean.specs.declared.fault.PassFault.{PassFault}
-use Rattle.hv_clean.specs.declared.fault.PassFault.TheVariants as pass
+use Rattle.hv_clean.specs.declared.fault.PassFault.TheVariants as pass_fault
 
 -- a pass or a job without room for its next entry ends there, and the run goes on
 abbrev pub fault_of : RunFault → Result (Unit {0}) HouseFault
@@ -24,9 +24,9 @@ fault_of run.NoMemory = Err fault.NoMemory
 
 -- a pass of a cleaner stops as a run of acts does
 abbrev pub run_of : PassFault → RunFault
-run_of pass.Store = run.Store
-run_of (pass.Full entries) = run.Full entries
-run_of pass.NoMemory = run.NoMemory
+run_of pass_fault.Store = run.Store
+run_of (pass_fault.Full entries) = run.Full entries
+run_of pass_fault.NoMemory = run.NoMemory
 
 -- where it was done nothing is printed
 abbrev pub quietly : Result (Unit {0}) HouseFault → Result Reply HouseFault
