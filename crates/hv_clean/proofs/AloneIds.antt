@@ -1,7 +1,7 @@
 -- Where others add nothing, no call on files failed and nothing was listed still: each aborted id is forgotten.
 use Rattle.std.proofs.Common.{◌≡◌, ◌⊎◌, inl, inr, ℕ, ◌+◌, ◌-◌, ◌^◌, ◌≤◌, ◌==◌, Bool, true, false, true≢false, cond, Option, Some, None, List, [], ◌∷◌, ◌++◌, map, not, refl, sym, ap, ◌∙◌, subst, append-nil, append_assoc, le_trans, le_refl, arith, eqb-true, ltb-false}
 use Rattle.std.proofs.lemmas.Bool.{and_parts, false_from_ne_true, eqb-false}
-use Rattle.std.specs.Prelude.{if◌then◌else◌, ◌&&◌, ◌×◌, nat_lt, IsTrue, IsFalse, IsSomeAnd}
+use Rattle.std.specs.Prelude.{if◌then◌else◌, ◌&&◌, ◌×◌, nat_lt, IsSomeAnd}
 use Rattle.std.specs.List.{AllByRecursion, list_any}
 use Rattle.hv_shelf.specs.Disk.{Store}
 use Rattle.hv_history.specs.declared.entry.Entry.{Entry}
@@ -45,11 +45,12 @@ AreApart (x ∷ xs) = AllByRecursion (Apart x) xs × AreApart xs
 -- one more that isn't it
 any-more : {A : Type 0} (p : A → Bool) (xs : List A) (x : A) → list_any p xs ≡ false → p x ≡ false → list_any p (xs ++ x ∷ []) ≡ false
 any-more p [] x none not_ = ap (λ (b : Bool). if b then true else false) not_
-any-more p (y ∷ xs) x none not_ = by (p y) none
+any-more p (y ∷ xs) x none not_ = by (λ e. any-more p xs x e not_) (p y) none
   where
-    by : (b : Bool) → (if b then true else list_any p xs) ≡ false → (if b then true else list_any p (xs ++ x ∷ [])) ≡ false
-    by true e = absurd (true≢false e)
-    by false e = any-more p xs x e not_
+    by : (list_any p xs ≡ false → list_any p (xs ++ x ∷ []) ≡ false) → (b : Bool) → (if b then true else list_any p xs) ≡ false
+        → (if b then true else list_any p (xs ++ x ∷ [])) ≡ false
+    by rest true e = absurd (true≢false e)
+    by rest false e = rest e
 
 not-true : (b : Bool) → not b ≡ true → b ≡ false
 not-true true e = absurd (true≢false (sym e))
@@ -106,14 +107,6 @@ all-after s x (y ∷ ys) apart pending = (pending-after s x y apart.0 pending.0,
 not-over : (s : State) (id : LostId) → IsPending s id → (is_live_in s id.table.0 ≡ false) ⊎ (CanForget s id.table.0 id.write.0 → ⊥) → ⊥
 not-over s id pending over = by (numbered s.tables id.table.0) pending over
   where
-    to-true : (b : Bool) → b ≡ true → IsTrue b
-    to-true true e = tt
-    to-true false e = true≢false (sym e)
-
-    to-false : (b : Bool) → not b ≡ true → IsFalse b
-    to-false true e = true≢false (sym e)
-    to-false false e = tt
-
     by : (o : Option Table) → is_lost_at s id.write.0 o ≡ true
         → (is_live_one o ≡ false) ⊎ (IsSomeAnd o (λ (t : Table). IsLostId s id.write.0 t × IsKeptId id.write.0 t) → ⊥) → ⊥
     by None lost over = true≢false (sym lost)
@@ -123,7 +116,7 @@ not-over s id pending over = by (numbered s.tables id.table.0) pending over
         let parts =
         and_parts (is_aborted_id s.transactions (numbered t.owners id.write.0)) (not (list_any (λ o. o == id.write.0) t.forgotten))
         (and_parts t.is_live (is_aborted_id s.transactions (numbered t.owners id.write.0) && not (list_any (λ o. o == id.write.0) t.forgotten)) lost).1 in
-        not_ (to-true (is_aborted_id s.transactions (numbered t.owners id.write.0)) parts.0, to-false (list_any (λ o. o == id.write.0) t.forgotten) parts.1)
+        not_ (parts.0, not-true (list_any (λ o. o == id.write.0) t.forgotten) parts.1)
 
 -- ---- counts
 
@@ -305,18 +298,21 @@ module _ {D : Type 0} (told : D → Option Store) (faults : D → ℕ) (B : List
       → book_in b.house ≡ book_in a.house ++ map forgot_entry (flat tables ids)
   tables-forget a b [] ids f t each zero_ pending apart =
       sweeps-book told faults B rows meanwhile none a b f t each ∙ sym (append-nil (book_in a.house))
-  tables-forget a b (table ∷ tables) ids f t each zero_ pending apart = by each.2
+  tables-forget a b (table ∷ tables) ids f t each zero_ pending apart =
+      by (λ pending_. tables-forget each.0 b tables ids each.1 t each.3 zero_ pending_ (apart-right (ids_of table ids) (flat tables ids) apart)) each.2
     where
       zero-mid : None_ each.1
       zero-mid = none-up each.1 t (tables-up each.0 b tables ids each.1 t each.3) zero_
 
-      by : ForgetsTable S a each.0 (ids_of table ids) f each.1 → book_in b.house ≡ book_in a.house ++ map forgot_entry (flat (table ∷ tables) ids)
-      by (inl its) =
+      by : (AllByRecursion (IsPending (state_of (book_in each.0.house))) (flat tables ids)
+          → book_in b.house ≡ book_in each.0.house ++ map forgot_entry (flat tables ids))
+          → ForgetsTable S a each.0 (ids_of table ids) f each.1 → book_in b.house ≡ book_in a.house ++ map forgot_entry (flat (table ∷ tables) ids)
+      by rest (inl its) =
           let here : Forgets a each.0 (ids_of table ids) (flat tables ids) =
           each-forgets a each.0 (ids_of table ids) (flat tables ids) f each.1 its zero-mid pending apart in
-          tables-forget each.0 b tables ids each.1 t each.3 zero_ here.pending (apart-right (ids_of table ids) (flat tables ids) apart)
+          rest here.pending
           ∙ ap (λ (es : List Entry). es ++ map forgot_entry (flat tables ids)) here.book
           ∙ append_assoc (book_in a.house) (map forgot_entry (ids_of table ids)) (map forgot_entry (flat tables ids))
           ∙ ap (λ (es : List Entry). book_in a.house ++ es) (sym (map-append forgot_entry (ids_of table ids) (flat tables ids)))
-      by (inr failed) =
+      by rest (inr failed) =
           absurd (failed.1 (no-fault f each.1 (sweeps-up told faults B rows meanwhile a each.0 f each.1 failed.0) zero-mid.faults))

@@ -87,14 +87,15 @@ pends-lower s0 s (id ∷ ids) a b le p = (le_trans le p.0, p.1, p.2, p.3)
 
 pends-from : (s0 : State) (n count : ℕ) → Pends s0 s0 n (each_of (ready_at s0) n count)
 pends-from s0 n zero = tt
-pends-from s0 n (suc count) = by (is_ready_in s0 (numbered s0.jobs n)) refl
+pends-from s0 n (suc count) = by (pends-from s0 (n + 1) count) (is_ready_in s0 (numbered s0.jobs n)) refl
   where
     above : n ≤ n + 1
     above = omega arith
 
-    by : (b : Bool) → is_ready_in s0 (numbered s0.jobs n) ≡ b → Pends s0 s0 n ((if b then job_at n ∷ [] else []) ++ each_of (ready_at s0) (n + 1) count)
-    by true e = (le_refl n, refl, e, pends-from s0 (n + 1) count)
-    by false e = pends-lower s0 s0 (each_of (ready_at s0) (n + 1) count) n (n + 1) above (pends-from s0 (n + 1) count)
+    by : Pends s0 s0 (n + 1) (each_of (ready_at s0) (n + 1) count) → (b : Bool) → is_ready_in s0 (numbered s0.jobs n) ≡ b
+        → Pends s0 s0 n ((if b then job_at n ∷ [] else []) ++ each_of (ready_at s0) (n + 1) count)
+    by rest true e = (le_refl n, refl, e, rest)
+    by rest false e = pends-lower s0 s0 (each_of (ready_at s0) (n + 1) count) n (n + 1) above rest
 
 pub all-pend : (s0 : State) → Pends s0 s0 1 (ready_in s0)
 all-pend s0 = pends-from s0 1 (length s0.jobs)
@@ -134,13 +135,9 @@ free-then s0 s id b same there is =
 pub past-free : (s : State) (id : JobId) → OfJob s id.0 (CleanedFits profile s) → is_free_one s (numbered s.jobs id.0) ≡ true
 past-free s id fits = by (numbered s.jobs id.0) fits
   where
-    is-true : (b : Bool) → IsTrue b → b ≡ true
-    is-true true is = refl
-    is-true false is = absurd is
-
     by : (o : Option Job) → IsSomeAnd o (CleanedFits profile s) → is_free_one s o ≡ true
     by None fits = absurd fits
-    by (Some job) fits = is-true (is_past s job) fits.past
+    by (Some job) fits = fits.past
 
 held-free : (s : State) (id : JobId) (txn : ℕ) → IsHeldBy s id.0 txn → is_free_one s (numbered s.jobs id.0) ≡ false
 held-free s id txn held = by (numbered s.jobs id.0) held
@@ -281,7 +278,8 @@ module _ {D : Type 0} (told : D → Option Store) (faults : D → ℕ) (B : List
     same = subst (λ (book : List Entry). Same s0 (state_of book)) (sym (sweeps-book a b f t each)) same;
   }
   each-cleans s0 a b (id ∷ ids) low f t each zero_ same pends =
-      by (one-turned s0 a each.0 id f each.1 each.2 (zero-below each.1.faults t.faults (each-up each.0 b ids each.1 t each.3) zero_) same pends.1 pends.2)
+      by (λ same_ pends_. each-cleans s0 each.0 b ids (id.0 + 1) each.1 t each.3 zero_ same_ pends_)
+      (one-turned s0 a each.0 id f each.1 each.2 (zero-below each.1.faults t.faults (each-up each.0 b ids each.1 t each.3) zero_) same pends.1 pends.2)
     where
       -- the list with this one, by whether it is free
       with-it : (b : Bool) → is_free s0 id ≡ b
@@ -293,13 +291,13 @@ module _ {D : Type 0} (told : D → Option Store) (faults : D → ℕ) (B : List
       low-next : id.0 < id.0 + 1
       low-next = omega arith
 
-      by : Turned s0 a each.0 id → Cleans s0 a b (id ∷ ids)
-      by (inl free) =
+      by : (Same s0 (state_of (book_in each.0.house)) → Pends s0 (state_of (book_in each.0.house)) (id.0 + 1) ids → Cleans s0 each.0 b ids)
+          → Turned s0 a each.0 id → Cleans s0 a b (id ∷ ids)
+      by behind (inl free) =
           let states : state_of (book_in each.0.house) ≡ after (state_of (book_in a.house)) (entry.Cleaned id) =
           ap state_of free.1 ∙ state_of-snoc (book_in a.house) (entry.Cleaned id) in
           let rest : Cleans s0 each.0 b ids =
-          each-cleans s0 each.0 b ids (id.0 + 1) each.1 t each.3 zero_
-          (subst (Same s0) (sym states) (same-after s0 (state_of (book_in a.house)) id same))
+          behind (subst (Same s0) (sym states) (same-after s0 (state_of (book_in a.house)) id same))
           (subst (λ (u : State). Pends s0 u (id.0 + 1) ids) (sym states)
           (pends-after s0 (state_of (book_in a.house)) id ids (id.0 + 1) low-next pends.3)) in
           record {
@@ -307,10 +305,10 @@ module _ {D : Type 0} (told : D → Option Store) (faults : D → ℕ) (B : List
                 ∙ append_assoc (book_in a.house) (entry.Cleaned id ∷ []) (map entry.Cleaned (filter (is_free s0) ids)) ∙ with-it true free.0;
             same = rest.same;
           }
-      by (inr held) =
+      by behind (inr held) =
           let states : state_of (book_in each.0.house) ≡ state_of (book_in a.house) = ap state_of held.1 in
           let rest : Cleans s0 each.0 b ids =
-          each-cleans s0 each.0 b ids (id.0 + 1) each.1 t each.3 zero_ (subst (Same s0) (sym states) same)
+          behind (subst (Same s0) (sym states) same)
           (subst (λ (u : State). Pends s0 u (id.0 + 1) ids) (sym states) pends.3) in
           record {
             book = rest.book ∙ ap (λ (xs : List Entry). xs ++ map entry.Cleaned (filter (is_free s0) ids)) held.1 ∙ with-it false held.0;
