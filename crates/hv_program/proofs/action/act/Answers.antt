@@ -1,8 +1,15 @@
+use Rattle.std.proofs.Common.{IfOk, IfErr, sym, subst}
 use Rattle.hv_actor.specs.Acting.{IsLater}
 use Rattle.hv_actor.specs.Rows.{later_itself}
 use Rattle.hv_session.specs.hv_beginning.specs.hv_steps.specs.hv_table_reader.specs.hv_acts.specs.Told.{seen_in}
 use Rattle.hv_session.specs.hv_beginning.specs.hv_steps.specs.hv_table_reader.specs.hv_acts.specs.hv_telling.specs.hv_house.specs.declared.fault.HouseFault.TheVariants as fault
-use Rattle.hv_session.specs.hv_beginning.specs.hv_steps.specs.hv_table_reader.specs.hv_acts.specs.hv_telling.specs.Telling.{IsWhole, StillOpens}
+use Rattle.hv_session.specs.hv_beginning.specs.hv_steps.specs.hv_table_reader.specs.hv_acts.specs.hv_telling.specs.hv_house.specs.declared.fault.HouseFault.{HouseFault}
+use Rattle.hv_session.specs.hv_beginning.specs.hv_steps.specs.hv_table_reader.specs.hv_acts.specs.hv_telling.specs.hv_house.specs.House.{entries_of}
+use Rattle.hv_session.specs.hv_beginning.specs.hv_steps.specs.hv_table_reader.specs.hv_acts.specs.hv_telling.specs.Telling.{IsWhole, IsToldHouse, StillOpens}
+use Rattle.hv_session.specs.hv_beginning.specs.hv_steps.specs.declared.ready.Reply.{Reply}
+use Rattle.hv_script.specs.declared.actions.Action.{Action}
+use Rattle.hv_program.specs.Keeping.{standing_of}
+use Rattle.hv_program.specs.Running.{Acts, Stops}
 use Rattle.hv_program.specs.Stops.{IsShutFor}
 use Rattle.hv_program.proofs.Acting.{stops-first, opens-first}
 use Rattle.hv_program.proofs.Besides.{quiet-fact, quiet-err, quiet-cause, quiet-can, compact-held, compact-truly, compact-acts, compact-stops, clean-held, clean-truly, clean-acts, clean-stops}
@@ -50,12 +57,20 @@ returns-in-Compact-clause-can g c =
 
 pub returns-in-Compact-clause-acted : goal.returns-in-Compact-clause-acted
 returns-in-Compact-clause-acted g c = λ is.
-    compact-acts g.D.Shelf.told c.args.house.now.house c.compact.new.house.house c.args.held.now.items c.compact.result c.quietly.result c.quietly.ensures c.compact.ensures.whole c.compact.ensures.added _ _
-    c.compact.ensures.done
+    let before = standing_of c.args.house.now.house c.args.held.now.items in
+    let now = standing_of c.compact.new.house.house c.args.held.now.items in
+    subst (λ (act : Action). IfOk c.quietly.result (λ (reply : Reply). Acts (g.D.Shelf.faults c.args.house.now.house.shelf) (g.D.Shelf.faults c.compact.new.house.house.shelf) before now act reply.text reply.refused))
+    (sym c.in-Compact.is)
+    (compact-acts g.D.Shelf.told c.args.house.now.house c.compact.new.house.house c.args.held.now.items c.compact.result c.quietly.result c.quietly.ensures c.compact.ensures.whole c.compact.ensures.added
+    (g.D.Shelf.faults c.args.house.now.house.shelf) (g.D.Shelf.faults c.compact.new.house.house.shelf)
+    c.compact.ensures.done)
 
 pub returns-in-Compact-clause-stopped : goal.returns-in-Compact-clause-stopped
 returns-in-Compact-clause-stopped g c =
-    compact-stops g.D.Shelf.told c.args.house.now.house c.compact.new.house.house c.args.held.now.items c.compact.result c.quietly.result c.quietly.ensures c.compact.ensures.stopped
+    let before = standing_of c.args.house.now.house c.args.held.now.items in
+    subst (λ (act : Action). IfErr c.quietly.result (λ (why : HouseFault). Stops (IsToldHouse g.D.Shelf.told c.args.house.now.house) why (g.D.Shelf.told c.compact.new.house.house.shelf) before act (entries_of c.compact.new.house.house)))
+    (sym c.in-Compact.is)
+    (compact-stops g.D.Shelf.told c.args.house.now.house c.compact.new.house.house c.args.held.now.items c.compact.result c.quietly.result c.quietly.ensures c.compact.ensures.stopped)
 
 pub returns-in-Compact-clause-opens : goal.returns-in-Compact-clause-opens
 returns-in-Compact-clause-opens g c = λ is.
@@ -87,12 +102,20 @@ returns-in-Clean-clause-can g c =
 
 pub returns-in-Clean-clause-acted : goal.returns-in-Clean-clause-acted
 returns-in-Clean-clause-acted g c = λ is.
-    clean-acts g.D.Shelf.told c.args.house.now.house c.clean.new.house.house c.args.held.now.items c.clean.result c.quietly.result c.quietly.ensures c.clean.ensures.whole c.clean.ensures.added _ _
-    c.clean.ensures.done
+    let before = standing_of c.args.house.now.house c.args.held.now.items in
+    let now = standing_of c.clean.new.house.house c.args.held.now.items in
+    subst (λ (act : Action). IfOk c.quietly.result (λ (reply : Reply). Acts (g.D.Shelf.faults c.args.house.now.house.shelf) (g.D.Shelf.faults c.clean.new.house.house.shelf) before now act reply.text reply.refused))
+    (sym c.in-Clean.is)
+    (clean-acts g.D.Shelf.told c.args.house.now.house c.clean.new.house.house c.args.held.now.items c.clean.result c.quietly.result c.quietly.ensures c.clean.ensures.whole c.clean.ensures.added
+    (g.D.Shelf.faults c.args.house.now.house.shelf) (g.D.Shelf.faults c.clean.new.house.house.shelf)
+    c.clean.ensures.done)
 
 pub returns-in-Clean-clause-stopped : goal.returns-in-Clean-clause-stopped
 returns-in-Clean-clause-stopped g c =
-    clean-stops g.D.Shelf.told c.args.house.now.house c.clean.new.house.house c.args.held.now.items c.clean.result c.quietly.result c.quietly.ensures c.clean.ensures.stopped
+    let before = standing_of c.args.house.now.house c.args.held.now.items in
+    subst (λ (act : Action). IfErr c.quietly.result (λ (why : HouseFault). Stops (IsToldHouse g.D.Shelf.told c.args.house.now.house) why (g.D.Shelf.told c.clean.new.house.house.shelf) before act (entries_of c.clean.new.house.house)))
+    (sym c.in-Clean.is)
+    (clean-stops g.D.Shelf.told c.args.house.now.house c.clean.new.house.house c.args.held.now.items c.clean.result c.quietly.result c.quietly.ensures c.clean.ensures.stopped)
 
 pub returns-in-Clean-clause-opens : goal.returns-in-Clean-clause-opens
 returns-in-Clean-clause-opens g c = λ is.

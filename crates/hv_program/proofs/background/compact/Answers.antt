@@ -1,8 +1,12 @@
-use Rattle.std.proofs.Common.{sym, ◌∙◌}
+use Rattle.std.proofs.Common.{◌∙◌}
+use Rattle.hv_actor.specs.Acting.{IsLater}
+use Rattle.hv_session.specs.hv_beginning.specs.hv_steps.specs.hv_table_reader.specs.hv_acts.specs.Told.{seen_in}
 use Rattle.hv_session.specs.hv_beginning.specs.hv_steps.specs.hv_table_reader.specs.hv_acts.specs.hv_telling.specs.hv_house.specs.declared.fault.HouseFault.{HouseFault}
+use Rattle.hv_session.specs.hv_beginning.specs.hv_steps.specs.hv_table_reader.specs.hv_acts.specs.hv_telling.specs.hv_house.specs.House.{entries_of}
+use Rattle.hv_session.specs.hv_beginning.specs.hv_steps.specs.hv_table_reader.specs.hv_acts.specs.hv_telling.specs.Telling.{IsWhole}
 use Rattle.hv_session.specs.hv_beginning.specs.hv_steps.specs.hv_table_reader.specs.hv_acts.specs.hv_telling.proofs.Told.{told-stays}
-use Rattle.hv_program.specs.Background.{IsCompacting}
-use Rattle.hv_program.specs.Beside.{StopsBeside}
+use Rattle.hv_program.specs.Background.{IsCompacting, Initiated, WorksOne, Compacts}
+use Rattle.hv_program.specs.Beside.{AddsBeside, StopsBeside}
 use Rattle.hv_program.proofs.Leaving.{beside-some, stops-then}
 use Rattle.hv_program.proofs.Passed.{ok-of, err-of, err-then, ok-then, later-then, beside-then, cause-then}
 use Rattle.hv_program.proofs.background.compact.Goals as goal
@@ -17,12 +21,14 @@ do_one-requires-clause-hard g c =
 
 pub do_one-requires-clause-begun : goal.do_one-requires-clause-begun
 do_one-requires-clause-begun g c =
-    beside-some IsCompacting _ _ (ok-of c.ask_for_due.result _ _ c.in-Ok.is c.ask_for_due.ensures.added) c.requires.begun
+    beside-some IsCompacting (entries_of c.args.house.now.house) (entries_of c.ask_for_due.new.house.house)
+    (ok-of c.ask_for_due.result _ _ c.in-Ok.is c.ask_for_due.ensures.added) c.requires.begun
 
 pub returns-in-Ok-clause-stopped : goal.returns-in-Ok-clause-stopped
 returns-in-Ok-clause-stopped g c =
-    let first = ok-of c.ask_for_due.result _ _ c.in-Ok.is c.ask_for_due.ensures.added in
-    let whole = ok-of c.ask_for_due.result _ _ c.in-Ok.is c.ask_for_due.ensures.whole in
+    let first : AddsBeside IsCompacting (entries_of c.args.house.now.house) (entries_of c.ask_for_due.new.house.house) =
+    ok-of c.ask_for_due.result _ _ c.in-Ok.is c.ask_for_due.ensures.added in
+    let whole : IsWhole g.D.Shelf.told c.ask_for_due.new.house.house = ok-of c.ask_for_due.result _ _ c.in-Ok.is c.ask_for_due.ensures.whole in
     err-then c.do_one.result
     (λ (why : HouseFault). StopsBeside g.D.Shelf.told IsCompacting why c.ask_for_due.new.house.house c.do_one.new.house.house)
     (λ (why : HouseFault). StopsBeside g.D.Shelf.told IsCompacting why c.args.house.now.house c.do_one.new.house.house)
@@ -32,15 +38,30 @@ returns-in-Ok-clause-stopped g c =
 
 pub returns-in-Ok-clause-added : goal.returns-in-Ok-clause-added
 returns-in-Ok-clause-added g c =
-    ok-then c.do_one.result _ _ (λ next. beside-then IsCompacting _ _ _ (ok-of c.ask_for_due.result _ _ c.in-Ok.is c.ask_for_due.ensures.added) next) c.do_one.ensures.added
+    let first : AddsBeside IsCompacting (entries_of c.args.house.now.house) (entries_of c.ask_for_due.new.house.house) =
+    ok-of c.ask_for_due.result _ _ c.in-Ok.is c.ask_for_due.ensures.added in
+    ok-then c.do_one.result (AddsBeside IsCompacting (entries_of c.ask_for_due.new.house.house) (entries_of c.do_one.new.house.house))
+    (AddsBeside IsCompacting (entries_of c.args.house.now.house) (entries_of c.do_one.new.house.house))
+    (λ next. beside-then IsCompacting (entries_of c.args.house.now.house) (entries_of c.ask_for_due.new.house.house) (entries_of c.do_one.new.house.house) first next)
+    c.do_one.ensures.added
 
 pub returns-in-Ok-clause-later : goal.returns-in-Ok-clause-later
 returns-in-Ok-clause-later g c =
-    ok-then c.do_one.result _ _ (λ next. later-then g.D.Shelf.faults _ _ _ (ok-of c.ask_for_due.result _ _ c.in-Ok.is c.ask_for_due.ensures.later) next) c.do_one.ensures.later
+    let first : IsLater g.D.Shelf.faults (seen_in c.args.house.now) (seen_in c.ask_for_due.new.house) =
+    ok-of c.ask_for_due.result _ _ c.in-Ok.is c.ask_for_due.ensures.later in
+    ok-then c.do_one.result (IsLater g.D.Shelf.faults (seen_in c.ask_for_due.new.house) (seen_in c.do_one.new.house))
+    (IsLater g.D.Shelf.faults (seen_in c.args.house.now) (seen_in c.do_one.new.house))
+    (λ next. later-then g.D.Shelf.faults c.args.house.now c.ask_for_due.new.house c.do_one.new.house first next)
+    c.do_one.ensures.later
 
 pub returns-in-Ok-clause-done : goal.returns-in-Ok-clause-done
 returns-in-Ok-clause-done g c =
-    ok-then c.do_one.result _ _ (λ next. record { between = _; initiated = ok-of c.ask_for_due.result _ _ c.in-Ok.is c.ask_for_due.ensures.done; works = next }) c.do_one.ensures.done
+    let first : Initiated (entries_of c.args.house.now.house) (entries_of c.ask_for_due.new.house.house) =
+    ok-of c.ask_for_due.result _ _ c.in-Ok.is c.ask_for_due.ensures.done in
+    ok-then c.do_one.result (WorksOne (entries_of c.ask_for_due.new.house.house) (entries_of c.do_one.new.house.house))
+    (Compacts (entries_of c.args.house.now.house) (entries_of c.do_one.new.house.house))
+    (λ next. record { between = entries_of c.ask_for_due.new.house.house; initiated = first; works = next })
+    c.do_one.ensures.done
 
 pub returns-in-Ok-clause-start : goal.returns-in-Ok-clause-start
 returns-in-Ok-clause-start g c =
@@ -48,11 +69,12 @@ returns-in-Ok-clause-start g c =
 
 pub returns-in-Ok-clause-opens : goal.returns-in-Ok-clause-opens
 returns-in-Ok-clause-opens g c =
-    λ is. c.do_one.ensures.opens (told-stays g.D.Shelf.told c.ask_for_due.new.house.house c.args.house.now.house (sym c.ask_for_due.ensures.start) is)
+    λ is. c.do_one.ensures.opens (told-stays g.D.Shelf.told c.args.house.now.house c.ask_for_due.new.house.house c.ask_for_due.ensures.start is)
 
 pub returns-in-Ok-clause-cause : goal.returns-in-Ok-clause-cause
 returns-in-Ok-clause-cause g c =
-    cause-then _ _ _ c.ask_for_due.ensures.cause.later c.do_one.result c.do_one.ensures.cause
+    cause-then (g.D.Shelf.faults c.args.house.now.house.shelf) (g.D.Shelf.faults c.ask_for_due.new.house.house.shelf) (g.D.Shelf.faults c.do_one.new.house.house.shelf)
+    c.ask_for_due.ensures.cause.later c.do_one.result c.do_one.ensures.cause
 
 pub returns-in-Err-clause-stopped : goal.returns-in-Err-clause-stopped
 returns-in-Err-clause-stopped g c =
