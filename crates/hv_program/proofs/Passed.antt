@@ -1,7 +1,6 @@
 -- What a pass leaves over a house on which nobody else acts.
 use Rattle.std.proofs.Common.{◌≡◌, ◌≤◌, inl, inr, ℕ, zero, suc, Option, Some, None, Result, Ok, Err, IfOk, IfErr, List, [], ◌∷◌, ◌++◌, map, take, drop, refl, sym, ap, ◌∙◌, subst, append-nil, append_assoc, arith}
 use Rattle.std.specs.List.{AllByRecursion}
-use Rattle.hv_base.specs.Faults.{Rose}
 use Rattle.hv_base.specs.declared.ids.JobId.{JobId}
 use Rattle.hv_shelf.specs.Disk.{Store}
 use Rattle.hv_history.specs.declared.entry.Entry.{Entry}
@@ -15,7 +14,7 @@ use Rattle.hv_trail.specs.Steps.{Call}
 use Rattle.hv_trail.specs.Trail.{book_of}
 use Rattle.hv_actor.specs.Acting.{IsLater, Nothing, Untouched, Setting, Moment, among, known}
 use Rattle.hv_actor.specs.Rows.{nothing_rows}
-use Rattle.hv_actor.proofs.Weaving.{later-further}
+use Rattle.hv_actor.proofs.Weaving.{rose-from, later-further}
 use Rattle.hv_session.proofs.AloneBooks.{nothing-is-added}
 use Rattle.hv_session.proofs.AloneStops.{never-between}
 use Rattle.hv_session.specs.hv_beginning.specs.hv_steps.specs.hv_table_reader.specs.hv_acts.specs.declared.told.ToldHouse.{ToldHouse}
@@ -125,9 +124,6 @@ err-then (Err why) P Q f p = f why p
 pub later-then : {D : Type 0} (faults : D → ℕ) (a b c : ToldHouse D) → IsLater faults (seen_in a) (seen_in b) → IsLater faults (seen_in b) (seen_in c)
     → IsLater faults (seen_in a) (seen_in c)
 later-then faults a b c = later-further faults (seen_in a) (seen_in b) (seen_in c)
-
-rose-from : (a b c : ℕ) → a ≤ b → Rose b c → Rose a c
-rose-from a b c first rose = grind (arith, first, rose)
 
 risen-from : (a b c : ℕ) → a ≤ b → (why : HouseFault) → HasRisen b c why → HasRisen a c why
 risen-from a b c first fault.Store rose = rose-from a b c first rose
