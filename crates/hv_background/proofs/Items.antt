@@ -15,19 +15,23 @@ use Rattle.hv_trail.specs.declared.trail.TrailItem.TheVariants.{Noted, Marked}
 use Rattle.hv_trail.specs.declared.trail.Mark.TheVariants.{Wrote, Broke, Went}
 use Rattle.hv_trail.specs.Trail.{book_of}
 use Rattle.hv_actor.specs.Acting.{AreRows, Setting, Moment, among}
-use Rattle.hv_clean.specs.hv_compact.specs.hv_job_acts.specs.hv_acts.specs.declared.told.ToldHouse.{ToldHouse}
-use Rattle.hv_clean.specs.hv_compact.specs.hv_job_acts.specs.hv_acts.specs.Going.{IsOpenHouse}
-use Rattle.hv_clean.specs.hv_compact.specs.hv_job_acts.specs.declared.asking.PartAt.{PartAt}
-use Rattle.hv_clean.specs.hv_compact.specs.hv_job_acts.specs.declared.asking.LostId.{LostId}
-use Rattle.hv_clean.specs.hv_compact.specs.hv_job_acts.specs.Work.{parts_in}
-use Rattle.hv_clean.specs.hv_compact.specs.declared.compacting.Done.{Done}
-use Rattle.hv_clean.specs.hv_compact.specs.declared.compacting.Done.TheVariants as done
-use Rattle.hv_clean.specs.hv_compact.specs.declared.fault.RunFault.{RunFault}
-use Rattle.hv_clean.specs.hv_compact.specs.Compacting.{IsMarkOf, IsWroteOf, EndsBy, CompactsSo, IsPickedThen, StopsWith}
-use Rattle.hv_clean.specs.hv_compact.specs.Initiating.{asks_kind, asks_for, AreTurns, Initiates, InitiatesLess}
-use Rattle.hv_clean.specs.hv_compact.proofs.Adds.{adds-none, adds-more}
+use Rattle.hv_clean.specs.hv_job_acts.specs.hv_acts.specs.declared.told.ToldHouse.{ToldHouse}
+use Rattle.hv_clean.specs.hv_job_acts.specs.hv_acts.specs.Going.{IsOpenHouse}
+use Rattle.hv_clean.specs.hv_job_acts.specs.declared.asking.PartAt.{PartAt}
+use Rattle.hv_clean.specs.hv_job_acts.specs.declared.asking.LostId.{LostId}
+use Rattle.hv_clean.specs.hv_job_acts.specs.Work.{parts_in}
+use Rattle.hv_compact.specs.declared.compacting.Done.{Done}
+use Rattle.hv_compact.specs.declared.compacting.Done.TheVariants as done
+use Rattle.hv_compact.specs.declared.fault.RunFault.{RunFault}
+use Rattle.hv_compact.specs.Compacting.{IsMarkOf, IsWroteOf, EndsBy, CompactsSo, IsPickedThen, StopsWith}
+use Rattle.hv_compact.specs.Initiating.{asks_kind, asks_for, AreTurns, Initiates, InitiatesLess}
+use Rattle.hv_compact.proofs.Adds.{adds-none, adds-more}
+use Rattle.hv_clean.specs.declared.fault.PassFault.{PassFault}
 use Rattle.hv_clean.specs.declared.fault.Swept.{Swept}
-use Rattle.hv_clean.specs.Passing.{IsSwept, Sweeps, SweepsLess, CleanEach, ForgetEach, ForgetsTable, ForgetTables, ids_of, ForgetsAll, Passes}
+use Rattle.hv_clean.specs.Fronts.{PassFront, StopsBehind}
+use Rattle.hv_clean.specs.Passing.{IsSwept, Sweeps, CleanEach, ForgetEach, ForgetsTable, ForgetTables, ids_of, ForgetsAll, Passes}
+use Rattle.hv_clean.proofs.Moved.{IsPassed}
+use Rattle.hv_clean.proofs.Came.{stopped-adds}
 use Rattle.hv_background.specs.Rounds.{is_compactors, is_cleaners, AddsTested, has_stopped}
 
 abbrev Tested : (TrailItem → Bool) → List TrailItem → Type 0
@@ -75,16 +79,21 @@ picked-tested (item ∷ items) is = absurd is
 -- ---- of a cleaner
 
 swept-tested : (item : TrailItem) → IsSwept item → is_cleaners item ≡ true
-swept-tested (Noted (entry.Cleaned job)) is = refl
-swept-tested (Noted (entry.Forgot table write)) is = refl
 swept-tested (Marked (Went dir)) is = refl
 swept-tested (Marked (Broke None put count)) is = ap not is
 swept-tested item is = absurd is
 
+passed-tested : (item : TrailItem) → IsPassed item → is_cleaners item ≡ true
+passed-tested (Noted (entry.Cleaned job)) is = refl
+passed-tested (Noted (entry.Forgot table write)) is = refl
+passed-tested (Marked (Went dir)) is = refl
+passed-tested (Marked (Broke None put count)) is = ap not is
+passed-tested item is = absurd is
+
 -- ---- rounds
 
 -- one that stopped doesn't go on, and one that goes on is in an open house
-pub goes-open : {D : Type 0} (now : ToldHouse D) (result : Result (Unit {0}) RunFault) → has_stopped result ≡ false
+pub goes-open : {D E : Type 0} (now : ToldHouse D) (result : Result (Unit {0}) E) → has_stopped result ≡ false
     → IfOk result (λ (x : Unit {0}). IsOpenHouse now) → IsOpenHouse now
 goes-open now (Ok x) goes running = running
 goes-open now (Err why) goes running = absurd (let never : true ≡ false = goes in cc)
@@ -170,5 +179,7 @@ module _ {D : Type 0} (told : D → Option Store) (faults : D → ℕ) (B : List
       (tested-more is_cleaners over.left rest.left b (all-tested-ids over.left rest.left over.swept rest.swept rest.ids)
       (sweeps-tested rest.left b rest.swept to rest.sweeps)))
 
-  pub passes-less : (a b : M) (why : RunFault) → SweepsLess S a b why → AddsTested S is_cleaners a b
-  passes-less a b why is = record { items = is.items; adds = is.adds; each = all-tested is_cleaners IsSwept swept-tested is.items is.each }
+  pub passes-less : (a b : M) (why : PassFault) → StopsBehind S (PassFront S) a b why → AddsTested S is_cleaners a b
+  passes-less a b why is =
+      let added = stopped-adds told faults B rows meanwhile a b why is in
+      record { items = added.0; adds = added.1; each = all-tested is_cleaners IsPassed passed-tested added.0 added.2 }

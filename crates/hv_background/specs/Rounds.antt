@@ -8,9 +8,8 @@ use Rattle.hv_trail.specs.declared.trail.TrailItem.{TrailItem}
 use Rattle.hv_trail.specs.declared.trail.TrailItem.TheVariants.{Noted, Marked}
 use Rattle.hv_trail.specs.declared.trail.Mark.TheVariants.{Wrote, Broke, Went}
 use Rattle.hv_actor.specs.Acting.{Setting, Moment}
-use Rattle.hv_clean.specs.hv_compact.specs.hv_job_acts.specs.hv_acts.specs.declared.told.ToldHouse.{ToldHouse}
-use Rattle.hv_clean.specs.hv_compact.specs.hv_job_acts.specs.Going.{AddsItems}
-use Rattle.hv_clean.specs.hv_compact.specs.declared.fault.RunFault.{RunFault}
+use Rattle.hv_clean.specs.hv_job_acts.specs.hv_acts.specs.declared.told.ToldHouse.{ToldHouse}
+use Rattle.hv_clean.specs.hv_job_acts.specs.Going.{AddsItems}
 
 -- a compaction that nobody's statement asked for, an entry of a job at work, or a job's mark
 abbrev pub is_compactors : TrailItem → Bool
@@ -39,6 +38,6 @@ pub record AddsTested {D : Type 0} (setting : Setting D (ToldHouse D)) (test : T
   pub each : AllByRecursion (λ (item : TrailItem). test item ≡ true) items
 
 -- the run has ended
-abbrev pub has_stopped : Result (Unit {0}) RunFault → Bool
+abbrev pub has_stopped : {E : Type 0} → Result (Unit {0}) E → Bool
 has_stopped (Ok done) = false
 has_stopped (Err why) = true

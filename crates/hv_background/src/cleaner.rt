@@ -1,14 +1,13 @@
 //! Rounds of a cleaner.
 ghost use Rattle.std.specs.Prelude.{IfOk};
 ghost use Rattle.hv_actor.specs.Acting.{among, known};
-ghost use Rattle.hv_clean.specs.hv_compact.specs.hv_job_acts.specs.hv_acts.specs.Going.{IsOpenHouse};
+ghost use Rattle.hv_clean.specs.hv_job_acts.specs.hv_acts.specs.Going.{IsOpenHouse};
 ghost use Rattle.hv_background.specs.Rounds.{is_cleaners, AddsTested};
 
 use crate::compactor::{has_stopped, rest};
 use hv_actor::Actor;
-use hv_clean::hv_compact::RunFault;
-use hv_clean::hv_compact::hv_job_acts::hv_acts::ToldHouse;
-use hv_clean::{Swept, clean_pass};
+use hv_clean::hv_job_acts::hv_acts::ToldHouse;
+use hv_clean::{PassFault, Swept, clean_pass};
 use hv_shelf::Shelf;
 use std::alloc::Global;
 use std::sync::Wait;
@@ -22,7 +21,7 @@ fn is_idle(swept: &Swept) -> bool {
 fn clean_round<D: Shelf + Drop, W: Actor<D, ToldHouse<D>>>(
     alloc: Global,
     actor: &mut W,
-) -> Result<(), RunFault>
+) -> Result<(), PassFault>
     requires keeps { W.keeps actor.old }
     requires running { IsOpenHouse (W.house actor.old) }
     ensures keeps { W.keeps actor.new }
@@ -48,7 +47,7 @@ pub fn clean_until<D: Shelf + Drop, W: Actor<D, ToldHouse<D>>, R: Wait>(
     alloc: Global,
     actor: &mut W,
     stop: &AtomicBool,
-) -> Result<(), RunFault>
+) -> Result<(), PassFault>
     requires keeps { W.keeps actor.old }
     requires running { IsOpenHouse (W.house actor.old) }
     ensures keeps { W.keeps actor.new }

@@ -1,12 +1,12 @@
 //! Rounds of an initiator and a compactor.
 ghost use Rattle.std.specs.Prelude.{◌≡◌, IfOk};
 ghost use Rattle.hv_actor.specs.Acting.{among, known};
-ghost use Rattle.hv_clean.specs.hv_compact.specs.hv_job_acts.specs.hv_acts.specs.Going.{IsOpenHouse};
+ghost use Rattle.hv_clean.specs.hv_job_acts.specs.hv_acts.specs.Going.{IsOpenHouse};
 ghost use Rattle.hv_background.specs.Rounds.{is_compactors, AddsTested, has_stopped};
 
 use hv_actor::Actor;
-use hv_clean::hv_compact::hv_job_acts::hv_acts::ToldHouse;
-use hv_clean::hv_compact::{Done, RunFault, compact_one, initiate};
+use hv_clean::hv_job_acts::hv_acts::ToldHouse;
+use hv_compact::{Done, RunFault, compact_one, initiate};
 use hv_shelf::Shelf;
 use std::alloc::Global;
 use std::sync::Wait;
@@ -21,7 +21,7 @@ pub(crate) fn rest(idle: bool) {
 }
 
 /// Whether the run has ended.
-pub(crate) fn has_stopped(done: &Result<(), RunFault>) -> bool
+pub(crate) fn has_stopped<E>(done: &Result<(), E>) -> bool
     ensures { result ≡ has_stopped done.now }
 {
     match done {

@@ -7,8 +7,8 @@ ghost use Rattle.hv_session.specs.hv_beginning.specs.hv_steps.specs.hv_table_rea
 
 use crate::words::{add_number, say, say_number};
 use hv_actor::Actor;
-use hv_clean::hv_compact::{Done, RunFault, compact_one, initiate};
 use hv_clean::{Swept, clean_pass};
+use hv_compact::{Done, compact_one, initiate};
 use hv_history::JobCause;
 use hv_session::hv_beginning::hv_steps::hv_table_reader::hv_acts::ToldHouse;
 use hv_shelf::Shelf;
@@ -23,6 +23,10 @@ pub(crate) enum Worked {
     Cleaned(Swept),
 }
 
+/// A compaction or a pass stopped: the house is closed, has no room, or memory lacked.
+#[derive(Clone, Copy)]
+pub(crate) struct Stopped;
+
 /// Whether an order is a compaction or a pass.
 pub(crate) fn is_work(order: &str) -> bool {
     order == "initiate" || order == "compact" || order == "clean"
@@ -31,7 +35,7 @@ pub(crate) fn is_work(order: &str) -> bool {
 fn initiate_now<D: Shelf + Drop, W: Actor<D, ToldHouse<D>>>(
     alloc: Global,
     actor: &mut W,
-) -> Result<Worked, RunFault>
+) -> Result<Worked, Stopped>
     requires keeps { W.keeps actor.old }
     requires running { IsOpenHouse (W.house actor.old) }
     ensures keeps { W.keeps actor.new }
@@ -40,14 +44,14 @@ fn initiate_now<D: Shelf + Drop, W: Actor<D, ToldHouse<D>>>(
 {
     match initiate(alloc, actor) {
         Ok(count) => Ok(Worked::Initiated(count)),
-        Err(why) => Err(why),
+        Err(_) => Err(Stopped),
     }
 }
 
 fn compact_now<D: Shelf + Drop, W: Actor<D, ToldHouse<D>>>(
     alloc: Global,
     actor: &mut W,
-) -> Result<Worked, RunFault>
+) -> Result<Worked, Stopped>
     requires keeps { W.keeps actor.old }
     requires running { IsOpenHouse (W.house actor.old) }
     ensures keeps { W.keeps actor.new }
@@ -56,14 +60,14 @@ fn compact_now<D: Shelf + Drop, W: Actor<D, ToldHouse<D>>>(
 {
     match compact_one(alloc, actor) {
         Ok(done) => Ok(Worked::Compacted(done)),
-        Err(why) => Err(why),
+        Err(_) => Err(Stopped),
     }
 }
 
 fn clean_now<D: Shelf + Drop, W: Actor<D, ToldHouse<D>>>(
     alloc: Global,
     actor: &mut W,
-) -> Result<Worked, RunFault>
+) -> Result<Worked, Stopped>
     requires keeps { W.keeps actor.old }
     requires running { IsOpenHouse (W.house actor.old) }
     ensures keeps { W.keeps actor.new }
@@ -72,7 +76,7 @@ fn clean_now<D: Shelf + Drop, W: Actor<D, ToldHouse<D>>>(
 {
     match clean_pass(alloc, actor) {
         Ok(swept) => Ok(Worked::Cleaned(swept)),
-        Err(why) => Err(why),
+        Err(_) => Err(Stopped),
     }
 }
 
@@ -81,7 +85,7 @@ pub(crate) fn work<D: Shelf + Drop, W: Actor<D, ToldHouse<D>>>(
     alloc: Global,
     actor: &mut W,
     order: &str,
-) -> Result<Worked, RunFault>
+) -> Result<Worked, Stopped>
     requires keeps { W.keeps actor.old }
     requires running { IsOpenHouse (W.house actor.old) }
     ensures keeps { W.keeps actor.new }

@@ -1,5 +1,5 @@
 use Rattle.hv_actor.specs.Acting.{among, known}
-use Rattle.hv_clean.specs.hv_compact.specs.hv_job_acts.specs.hv_acts.specs.Going.{IsOpenHouse}
+use Rattle.hv_clean.specs.hv_job_acts.specs.hv_acts.specs.Going.{IsOpenHouse}
 use Rattle.hv_background.specs.Rounds.{is_compactors, AddsTested}
 use Rattle.hv_background.proofs.compactor.compact_until.Given as goal
 
