@@ -1,22 +1,25 @@
--- Where a book is legal and no compaction was given up, a pass and a job add what one thread adds.
+-- Where a book is legal and no compaction failed, a pass and a job add what one thread adds.
 use Rattle.std.proofs.Common.{◌≡◌, ◌⊎◌, ℕ, ◌+◌, ◌≤◌, inl, inr, Bool, true, false, Option, Some, None, List, [], ◌∷◌, ◌++◌, length, map, refl, sym, ap, ◌∙◌, subst, append-nil, append_assoc}
 use Rattle.std.specs.Prelude.{IsSomeAnd}
 use Rattle.std.specs.List.{AllByRecursion}
 use Rattle.std.proofs.lemmas.Bool.{le-ltb, lt-ltb}
 use Rattle.hv_base.specs.declared.ids.JobId.{JobId}
+use Rattle.hv_base.specs.declared.ids.WriteId.{WriteId}
 use Rattle.hv_history.specs.declared.entry.Entry.{Entry}
 use Rattle.hv_history.specs.declared.entry.Entry.TheVariants as entry
+use Rattle.hv_history.specs.declared.entry.JobCause.TheVariants as job_cause
 use Rattle.hv_history.specs.declared.entry.JobKind.{JobKind}
 use Rattle.hv_history.specs.State.{State, Job, numbered, state_of}
 use Rattle.hv_history.specs.Jobs.{due, pieces_for}
-use Rattle.hv_history.specs.JobsFit.{PickedFits, PublishedFits, EmptyFits, CleanedFits, ForgotFits}
+use Rattle.hv_history.specs.JobsFit.{PickedFits, PublishedFits, EmptyFits, FailedFits, CleanedFits, ForgotFits}
 use Rattle.hv_history.specs.Legal.{Fits, IsLegal, load, profile}
+use Rattle.hv_history.proofs.StateLaws.{state_of-snoc}
 use Rattle.hv_trail.specs.Trail.{book_of}
 use Rattle.hv_law_next.specs.Next.{lacks_room}
 use Rattle.hv_law_next.proofs.Going.{legal-parts}
 use Rattle.hv_program.specs.hv_compact.specs.hv_job_acts.specs.declared.asking.PartAt.{PartAt}
 use Rattle.hv_program.specs.hv_compact.specs.hv_job_acts.specs.declared.asking.LostId.{LostId}
-use Rattle.hv_program.specs.hv_compact.specs.hv_job_acts.specs.hv_job_calls.specs.Refusals.{asking, picking, to_pick, published_by}
+use Rattle.hv_program.specs.hv_compact.specs.hv_job_acts.specs.hv_job_calls.specs.Refusals.{asking, picking, mark_at, number_in, to_pick, published_by}
 use Rattle.hv_program.specs.hv_compact.specs.hv_job_acts.specs.Work.{parts_in, lost_in}
 use Rattle.hv_program.specs.hv_compact.specs.Initiating.{asks_kind, asks_for}
 use Rattle.hv_program.specs.hv_compact.specs.Alone.{initiated_from}
@@ -24,6 +27,7 @@ use Rattle.hv_program.specs.hv_clean.specs.Alone.{free_in, forgot_entry}
 use Rattle.hv_program.specs.Background.{LacksRoomFor, IsCleaning, Initiated, IsEndOfJob, TakesUp, WorksAt, Compacts, IsWholePass}
 use Rattle.hv_law_serial.specs.Passes.{asked_if, asked_turn, asked_turns, is_empty_one, ended_if, ended_of, worked_if, worked, compacted, noted_if, noted_each, cleaned}
 use Rattle.hv_law_serial.specs.History.{IsNoFailure, AddsNoFailure}
+use Rattle.hv_law_serial.proofs.Living.{IsAlive, picked-alive, gone-never}
 
 -- ---- room
 
@@ -110,17 +114,30 @@ empty-by : (book : List Entry) (number : ℕ) (o : Option Job) → IsSomeAnd o (
 empty-by book number None is = absurd is
 empty-by book number (Some j) is = ap (λ (b : Bool). ended_if b book number) is.nothing
 
+-- one that was taken up is of a live table
+taken-alive : (before : List Entry) (number : ℕ) → to_pick (state_of before) ≡ Some number → Fits profile (state_of before) (picking before)
+    → IsAlive (state_of (before ++ picking before ∷ [])) number
+taken-alive before number is fits =
+    let job : JobId = record { 0 = number_in (to_pick (state_of before)) } in
+    let mark : WriteId = record { 0 = mark_at (state_of before) (numbered (state_of before).jobs (number_in (to_pick (state_of before)))) } in
+    subst (IsAlive (state_of (before ++ picking before ∷ []))) (ap number_in is)
+    (subst (λ (s : State). IsAlive s (number_in (to_pick (state_of before)))) (sym (state_of-snoc before (picking before)))
+    (picked-alive (state_of before) job mark fits))
+
 end-same : (book : List Entry) (number : ℕ) (event : Entry) → IsEndOfJob book (record { 0 = number }) event → Fits profile (state_of book) event
-    → IsNoFailure event → event ≡ ended_of book number
-end-same book number (entry.Published one low high mark) is fits unfailed =
+    → IsAlive (state_of book) number → IsNoFailure event → event ≡ ended_of book number
+end-same book number (entry.Published one low high mark) is fits alive unfailed =
     is
     ∙ sym (published-by book number (numbered (state_of book).jobs number) refl (subst (Fits profile (state_of book)) is fits))
-end-same book number (entry.Empty one) is fits unfailed =
+end-same book number (entry.Empty one) is fits alive unfailed =
     ap entry.Empty is
     ∙ sym (empty-by book number (numbered (state_of book).jobs number)
     (subst (λ (job : JobId). IsSomeAnd (numbered (state_of book).jobs job.0) (EmptyFits (state_of book))) is fits))
-end-same book number (entry.Failed one why) is fits unfailed = absurd unfailed
-end-same book number event is fits unfailed = absurd is
+end-same book number (entry.Failed one job_cause.Gone) is fits alive unfailed =
+    absurd (gone-never (state_of book) (numbered (state_of book).jobs number)
+    (subst (λ (job : JobId). IsSomeAnd (numbered (state_of book).jobs job.0) (FailedFits (state_of book) job_cause.Gone)) is fits) alive)
+end-same book number (entry.Failed one why) is fits alive unfailed = absurd unfailed
+end-same book number event is fits alive unfailed = absurd is
 
 taken-same : (before now : List Entry) (number : ℕ) → to_pick (state_of before) ≡ Some number → TakesUp before now number → IsLegal profile now → AddsNoFailure before now
     → now ≡ worked_if (lacks_room (state_of before) 2) (Some number) before
@@ -130,7 +147,7 @@ taken-same before now number is t legal unfailed =
     let first = (legal-parts before (picking before ∷ t.event ∷ []) (subst (IsLegal profile) t.goes legal)).behind.fit.0 in
     let last = (legal-parts picked (t.event ∷ []) (subst (IsLegal profile) (t.goes ∙ sym joined) legal)).behind.fit.0 in
     let ends : t.event ≡ ended_of picked number =
-    end-same picked number t.event t.ends last (unfailed (picking before ∷ t.event ∷ []) t.goes).1.0 in
+    end-same picked number t.event t.ends last (taken-alive before number is first) (unfailed (picking before ∷ t.event ∷ []) t.goes).1.0 in
     t.goes
     ∙ ap (λ (event : Entry). before ++ picking before ∷ event ∷ []) ends
     ∙ sym (ap (λ (b : Bool). worked_if b (Some number) before) (roomy (state_of before) 2 (picked-room (state_of before) _ _ _ first)))

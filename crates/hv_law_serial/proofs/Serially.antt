@@ -54,7 +54,7 @@ steady-behind : (before between now : List Entry) → Grown before between → A
 steady-behind before between now grown steady added goes =
     (steady-parts grown.0 added (steady (grown.0 ++ added) (goes ∙ ap (λ xs. xs ++ added) grown.1 ∙ append_assoc before grown.0 added))).1
 
--- and so where no compaction was given up
+-- and so of compactions that were given up
 unfailed-parts : (events more : List Entry) → AllByRecursion IsNoFailure (events ++ more) → AllByRecursion IsNoFailure events × AllByRecursion IsNoFailure more
 unfailed-parts [] more h = (tt, h)
 unfailed-parts (event ∷ events) more h = let rest = unfailed-parts events more h.1 in ((h.0, rest.0), rest.1)

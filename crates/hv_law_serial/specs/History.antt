@@ -6,6 +6,7 @@ use Rattle.hv_script.specs.declared.actions.Action.TheVariants as action
 use Rattle.hv_history.specs.declared.entry.Entry.{Entry}
 use Rattle.hv_history.specs.declared.entry.Entry.TheVariants as entry
 use Rattle.hv_history.specs.declared.entry.Cause.TheVariants as cause
+use Rattle.hv_history.specs.declared.entry.JobCause.TheVariants as job_cause
 use Rattle.hv_history.specs.Legal.{IsLegal, profile}
 use Rattle.hv_history.specs.Answers.{cause_text}
 use Rattle.hv_law_next.specs.Order.{AreSteady}
@@ -30,8 +31,9 @@ AreInMemory books before now [] output refused done = Unit {0}
 AreInMemory books before now (first ∷ more) output refused done =
     (done.1 ≡ memory_line → ⊥) × AreInMemory books done.0 now more done.2 done.4 done.6
 
--- no compaction was given up
+-- no compaction was given up for a fault, damage or want of memory
 abbrev pub IsNoFailure : Entry → Type 0
+IsNoFailure (entry.Failed job job_cause.Gone) = Unit {0}
 IsNoFailure (entry.Failed job why) = ⊥
 IsNoFailure event = Unit {0}
 
@@ -50,8 +52,8 @@ AreWholePasses books before now [] output refused done = Unit {0}
 AreWholePasses books before now (first ∷ more) output refused done =
     PassesWhole before done.0 first × AreWholePasses books done.0 now more done.2 done.4 done.6
 
--- A run in which no device failed and memory was found: no compaction was given up then, and no pass of a cleaner left
--- anything out but for want of room.
+-- A run in which no device failed and memory was found: no compaction was given up for a fault, damage or want
+-- of memory, and no pass of a cleaner left anything out but for want of room.
 pub record RanSteadily (start : List Entry) (now : Standing) (actions : List Action) (output : List ℕ) (refused : Bool)
     (done : AreDone (from_to start now.book) (beginning start) now actions output refused) : Type 0 where
   pub legal : IsLegal profile now.book

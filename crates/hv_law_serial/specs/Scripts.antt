@@ -28,7 +28,7 @@ abbrev pub history_of : Tree → List Entry → List ℕ → Standing
 history_of files book script = serial (beginning (opening_of files book)) (actions_of script)
 
 -- In a run that did all its script the store's count of faults didn't rise, and memory was found, by its entries and by its replies; no
--- compaction was given up, and no pass of a cleaner left anything out but for want of room.
+-- compaction was given up for a fault, damage or want of memory, and no pass of a cleaner left anything out but for want of room.
 pub record IsUntroubled (faults : Change ℕ) (book : List Entry) (source written : Change (List ℕ))
     (stores : Change Store) (refused : Bool)
     (all : IsAllDone faults book source written stores refused) : Type 0 where
