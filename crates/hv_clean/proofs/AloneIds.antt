@@ -1,7 +1,7 @@
 -- Where others add nothing, no call on files failed and nothing was listed still: each aborted id is forgotten.
 use Rattle.std.proofs.Common.{◌≡◌, ◌⊎◌, inl, inr, ℕ, ◌+◌, ◌-◌, ◌^◌, ◌≤◌, ◌==◌, Bool, true, false, true≢false, cond, Option, Some, None, List, [], ◌∷◌, ◌++◌, map, not, refl, sym, ap, ◌∙◌, subst, append-nil, append_assoc, le_trans, le_refl, arith, eqb-true, ltb-false}
 use Rattle.std.proofs.lemmas.Bool.{and_parts, false_from_ne_true, eqb-false}
-use Rattle.std.specs.Prelude.{if◌then◌else◌, ◌&&◌, ◌×◌, nat_lt, IsTrue, IsFalse, IsSomeAnd}
+use Rattle.std.specs.Prelude.{if◌then◌else◌, ◌&&◌, nat_lt, IsTrue, IsFalse, IsSomeAnd}
 use Rattle.std.specs.List.{AllByRecursion, list_any}
 use Rattle.hv_shelf.specs.Disk.{Store}
 use Rattle.hv_history.specs.declared.entry.Entry.{Entry}

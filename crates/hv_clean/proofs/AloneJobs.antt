@@ -1,7 +1,7 @@
 -- Where others add nothing and no call on files failed: a part leaves the book, and each ready job is cleaned or held.
 use Rattle.std.proofs.Common.{◌≡◌, ◌⊎◌, inl, inr, ℕ, zero, suc, ◌+◌, ◌-◌, ◌<◌, ◌≤◌, Bool, true, false, true≢false, Option, Some, None, List, [], ◌∷◌, ◌++◌, map, filter, length, refl, sym, ap, ◌∙◌, subst, append-nil, append_assoc, le_trans, le_refl, arith}
 use Rattle.std.proofs.lemmas.List.{append_cancel_left, append_cancel_right}
-use Rattle.std.specs.Prelude.{if◌then◌else◌, ◌&&◌, ◌×◌, is_none, IsTrue, IsSomeAnd}
+use Rattle.std.specs.Prelude.{if◌then◌else◌, ◌&&◌, is_none, IsTrue, IsSomeAnd}
 use Rattle.std.specs.List.{AllByRecursion}
 use Rattle.hv_base.specs.declared.ids.JobId.{JobId}
 use Rattle.hv_shelf.specs.Disk.{Store}

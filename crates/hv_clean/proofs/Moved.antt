@@ -1,6 +1,6 @@
 -- Parts of a pass, one behind the other, and what is counted on the way.
 use Rattle.std.proofs.Common.{◌≡◌, ◌⊎◌, inl, inr, ℕ, ◌+◌, ◌<◌, ◌≤◌, Bool, true, false, Option, Result, Ok, Err, List, [], ◌∷◌, ◌++◌, refl, sym, ap, ◌∙◌, subst, append-nil, append_assoc, le_trans, le_refl, arith, ltb-false}
-use Rattle.std.specs.Prelude.{if◌then◌else◌, nat_lt, ◌-◌, ◌^◌, ◌×◌, IfOk, IfErr}
+use Rattle.std.specs.Prelude.{if◌then◌else◌, nat_lt, ◌-◌, ◌^◌, IfOk, IfErr}
 use Rattle.std.specs.List.{AllByRecursion}
 use Rattle.hv_shelf.specs.Disk.{Store}
 use Rattle.hv_history.specs.declared.entry.Entry.TheVariants as entry

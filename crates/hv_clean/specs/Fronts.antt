@@ -1,6 +1,6 @@
 -- How far a pass came that stops: a front of its turns was done, and then marks alone were added.
 -- Source: Hive Transactions, cleaner.
-use Rattle.std.specs.Prelude.{◌×◌, ◌⊎◌, ℕ, List, [], ◌∷◌, ◌++◌}
+use Rattle.std.specs.Prelude.{◌⊎◌, ℕ, List, [], ◌∷◌, ◌++◌}
 use Rattle.hv_base.specs.declared.ids.JobId.{JobId}
 use Rattle.hv_history.specs.State.{state_of}
 use Rattle.hv_history.specs.Lasting.{IsFront}

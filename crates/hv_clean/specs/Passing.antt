@@ -1,6 +1,6 @@
 -- What a pass of a cleaner adds, turn by turn, and what it counts.
 -- Source: Hive Transactions, cleaner.
-use Rattle.std.specs.Prelude.{if◌then◌else◌, ◌≡◌, ◌×◌, ◌⊎◌, ◌<◌, nat_lt, ◌-◌, ◌^◌, ℕ, ◌+◌, true, false, None, List, [], ◌∷◌, ◌++◌, filter, ◌==◌, Bool}
+use Rattle.std.specs.Prelude.{if◌then◌else◌, ◌≡◌, ◌⊎◌, ◌<◌, nat_lt, ◌-◌, ◌^◌, ℕ, ◌+◌, true, false, None, List, [], ◌∷◌, ◌++◌, filter, ◌==◌, Bool}
 use Rattle.std.specs.List.{AllByRecursion}
 use Rattle.hv_base.specs.declared.ids.JobId.{JobId}
 use Rattle.hv_history.specs.declared.entry.Entry.{Entry}

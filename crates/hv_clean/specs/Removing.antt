@@ -1,6 +1,6 @@
 -- What a cleaner takes away, and how the turns of jobs and of write ids end by it.
 -- Source: Hive Transactions, cleaner.
-use Rattle.std.specs.Prelude.{◌≡◌, ◌×◌, ◌⊎◌, ℕ, Bool, true, false, IsSome, IsSomeAnd, Option, Some, None, List, Result, Ok, Err}
+use Rattle.std.specs.Prelude.{◌≡◌, ◌⊎◌, ℕ, Bool, true, false, IsSome, IsSomeAnd, Option, Some, None, List, Result, Ok, Err}
 use Rattle.std.specs.List.{AllByRecursion, list_any}
 use Rattle.hv_base.specs.declared.ids.JobId.{JobId}
 use Rattle.hv_shelf.specs.declared.place.DirAt.{DirAt}

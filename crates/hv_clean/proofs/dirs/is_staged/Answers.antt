@@ -1,5 +1,5 @@
 use Rattle.std.proofs.Common.{Option, true≢false, sym, subst}
-use Rattle.std.specs.Prelude.{◌≡◌, ◌×◌, IfSome}
+use Rattle.std.specs.Prelude.{◌≡◌, IfSome}
 use Rattle.hv_dirs.specs.declared.names.DirName.{DirName}
 use Rattle.hv_dirs.specs.Names.{IsName, text_of}
 use Rattle.hv_clean.specs.Dirs.{IsStagedIf}
