@@ -47,7 +47,8 @@ fn put_once(alloc: Global, dirs: &mut Vec<DirAt>, place: &Place) -> Result<(), N
         return Ok(());
     }
     let dir = dir_of(alloc, place)?;
-    Ok(dirs.push(dir)?)
+    dirs.push(dir)?;
+    Ok(())
 }
 
 /// Whether a name is that of an own directory of a write id.
