@@ -49,14 +49,6 @@ use Rattle.hv_program.specs.Beside.{fault_of, run_of, AddsBeside}
 use Rattle.hv_program.specs.Stops.{IsShutFor}
 use Rattle.hv_program.proofs.OwnEntries.{all-append}
 
--- ---- what an answer is
-
-pub ok-of : {T E : Type 0} (r : Result T E) (P : T → Type 0) (x : T) → r ≡ Ok x → IfOk r P → P x
-ok-of r P x is holds = subst (λ (a : Result _ _). IfOk a P) is holds
-
-pub err-of : {T E : Type 0} (r : Result T E) (P : E → Type 0) (why : E) → r ≡ Err why → IfErr r P → P why
-err-of r P why is holds = subst (λ (a : Result _ _). IfErr a P) is holds
-
 -- ---- a run that stops: the program goes on where there was no room
 
 pub full-ok : (why : RunFault) (q : Result (Unit {0}) HouseFault) (P : Type 0) → q ≡ fault_of why → ((entries : ℕ) → why ≡ run.Full entries → P)

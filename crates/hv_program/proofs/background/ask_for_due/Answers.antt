@@ -6,7 +6,7 @@ use Rattle.hv_program.specs.Background.{IsCompacting, Initiated}
 use Rattle.hv_program.specs.Beside.{AddsBeside}
 use Rattle.hv_program.proofs.Sessions.{is-kept, shuts-kept}
 use Rattle.hv_program.proofs.Leaves.{asked-stopped}
-use Rattle.hv_program.proofs.Passed.{ok-of, err-of, full-ok, stops-err, start-same, still-opens, stops-shut, stops-cause, done-cause, asked-done, asked-full, asked-beside, asked-some, asked-open, asked-shut}
+use Rattle.hv_program.proofs.Passed.{full-ok, stops-err, start-same, still-opens, stops-shut, stops-cause, done-cause, asked-done, asked-full, asked-beside, asked-some, asked-open, asked-shut}
 use Rattle.hv_program.proofs.background.ask_for_due.Goals as goal
 
 pub initiate-requires-clause-keeps : goal.initiate-requires-clause-keeps
@@ -19,12 +19,12 @@ initiate-requires-clause-running g c =
 
 pub returns-in-Ok-clause-whole : goal.returns-in-Ok-clause-whole
 returns-in-Ok-clause-whole g c =
-    c.initiate.ensures.keeps.0.whole (ok-of c.initiate.result _ c.in-Ok._count c.in-Ok.is c.initiate.ensures.running)
+    c.initiate.ensures.keeps.0.whole c.in-Ok.ensures.running
 
 pub returns-in-Ok-clause-added : goal.returns-in-Ok-clause-added
 returns-in-Ok-clause-added g c =
     asked-beside g.D.Shelf.told g.D.Shelf.faults (own_alone (seen_in c.args.house.now)) (own_alone (seen_in c.initiate.new.actor)) c.args.house.now c.initiate.new.actor c.in-Ok._count
-    (ok-of c.initiate.result _ c.in-Ok._count c.in-Ok.is c.initiate.ensures.initiates)
+    c.in-Ok.ensures.initiates
 
 pub returns-in-Ok-clause-later : goal.returns-in-Ok-clause-later
 returns-in-Ok-clause-later g c =
@@ -33,7 +33,7 @@ returns-in-Ok-clause-later g c =
 pub returns-in-Ok-clause-done : goal.returns-in-Ok-clause-done
 returns-in-Ok-clause-done g c =
     asked-done g.D.Shelf.told g.D.Shelf.faults (own_alone (seen_in c.args.house.now)) (own_alone (seen_in c.initiate.new.actor)) c.args.house.now c.initiate.new.actor c.in-Ok._count
-    (ok-of c.initiate.result _ c.in-Ok._count c.in-Ok.is c.initiate.ensures.initiates)
+    c.in-Ok.ensures.initiates
 
 pub returns-in-Ok-clause-start : goal.returns-in-Ok-clause-start
 returns-in-Ok-clause-start g c =
@@ -51,13 +51,13 @@ pub returns-in-Err-clause-whole : goal.returns-in-Err-clause-whole
 returns-in-Err-clause-whole g c =
     full-ok c.in-Err.why c.fault_of.result (IsWhole g.D.Shelf.told c.initiate.new.actor.house) c.fault_of.ensures
     (λ entries is. c.initiate.ensures.keeps.0.whole (asked-open g.D.Shelf.told g.D.Shelf.faults (own_alone (seen_in c.args.house.now)) (own_alone (seen_in c.initiate.new.actor)) c.args.house.now c.initiate.new.actor c.in-Err.why
-    (err-of c.initiate.result _ c.in-Err.why c.in-Err.is c.initiate.ensures.less) entries is))
+    c.in-Err.ensures.less entries is))
 
 pub returns-in-Err-clause-added : goal.returns-in-Err-clause-added
 returns-in-Err-clause-added g c =
     full-ok c.in-Err.why c.fault_of.result (AddsBeside IsCompacting (entries_of c.args.house.now.house) (entries_of c.initiate.new.actor.house)) c.fault_of.ensures
     (λ entries is. asked-some g.D.Shelf.told g.D.Shelf.faults (own_alone (seen_in c.args.house.now)) (own_alone (seen_in c.initiate.new.actor)) c.args.house.now c.initiate.new.actor c.in-Err.why
-    (err-of c.initiate.result _ c.in-Err.why c.in-Err.is c.initiate.ensures.less))
+    c.in-Err.ensures.less)
 
 pub returns-in-Err-clause-later : goal.returns-in-Err-clause-later
 returns-in-Err-clause-later g c =
@@ -67,7 +67,7 @@ pub returns-in-Err-clause-done : goal.returns-in-Err-clause-done
 returns-in-Err-clause-done g c =
     full-ok c.in-Err.why c.fault_of.result (Initiated (entries_of c.args.house.now.house) (entries_of c.initiate.new.actor.house)) c.fault_of.ensures
     (asked-full g.D.Shelf.told g.D.Shelf.faults (own_alone (seen_in c.args.house.now)) (own_alone (seen_in c.initiate.new.actor)) c.args.house.now c.initiate.new.actor c.in-Err.why
-    (err-of c.initiate.result _ c.in-Err.why c.in-Err.is c.initiate.ensures.less))
+    c.in-Err.ensures.less)
 
 pub returns-in-Err-clause-start : goal.returns-in-Err-clause-start
 returns-in-Err-clause-start g c =
@@ -83,7 +83,7 @@ pub returns-in-Err-clause-cause : goal.returns-in-Err-clause-cause
 returns-in-Err-clause-cause g c =
     stops-cause g.D.Shelf.faults c.args.house.now c.initiate.new.actor c.initiate.ensures.later c.requires.whole.ready.kept.running c.in-Err.why c.fault_of.result c.fault_of.ensures
     (asked-shut g.D.Shelf.told g.D.Shelf.faults (own_alone (seen_in c.args.house.now)) (own_alone (seen_in c.initiate.new.actor)) c.args.house.now c.initiate.new.actor c.in-Err.why
-    (err-of c.initiate.result _ c.in-Err.why c.in-Err.is c.initiate.ensures.less))
+    c.in-Err.ensures.less)
 
 pub returns-in-Err-clause-hard : goal.returns-in-Err-clause-hard
 returns-in-Err-clause-hard g c =
@@ -93,9 +93,9 @@ pub returns-in-Err-clause-shut : goal.returns-in-Err-clause-shut
 returns-in-Err-clause-shut g c =
     stops-shut g.D.Shelf.faults c.args.house.now c.initiate.new.actor c.initiate.ensures.later c.requires.whole.ready.kept.running c.in-Err.why c.fault_of.result c.fault_of.ensures
     (asked-shut g.D.Shelf.told g.D.Shelf.faults (own_alone (seen_in c.args.house.now)) (own_alone (seen_in c.initiate.new.actor)) c.args.house.now c.initiate.new.actor c.in-Err.why
-    (err-of c.initiate.result _ c.in-Err.why c.in-Err.is c.initiate.ensures.less))
+    c.in-Err.ensures.less)
 
 pub returns-in-Err-clause-stopped : goal.returns-in-Err-clause-stopped
 returns-in-Err-clause-stopped g c =
     asked-stopped g.D.Shelf.told g.D.Shelf.faults (own_alone (seen_in c.args.house.now)) (own_alone (seen_in c.initiate.new.actor)) c.args.house.now c.initiate.new.actor c.in-Err.why c.fault_of.result c.fault_of.ensures c.initiate.ensures.later c.initiate.ensures.keeps.0 c.requires.begun
-    (err-of c.initiate.result _ c.in-Err.why c.in-Err.is c.initiate.ensures.less)
+    c.in-Err.ensures.less

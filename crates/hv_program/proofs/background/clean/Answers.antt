@@ -6,7 +6,7 @@ use Rattle.hv_program.specs.Background.{IsCleaning, Cleans}
 use Rattle.hv_program.specs.Beside.{AddsBeside}
 use Rattle.hv_program.proofs.Sessions.{is-kept, shuts-kept}
 use Rattle.hv_program.proofs.Leaves.{swept-stopped}
-use Rattle.hv_program.proofs.Passed.{ok-of, err-of, full-ok, stops-err, start-same, still-opens, stops-shut, stops-cause, done-cause, swept-beside, swept-done, swept-less, swept-some, cleans-open, cleans-shut}
+use Rattle.hv_program.proofs.Passed.{full-ok, stops-err, start-same, still-opens, stops-shut, stops-cause, done-cause, swept-beside, swept-done, swept-less, swept-some, cleans-open, cleans-shut}
 use Rattle.hv_program.proofs.background.clean.Goals as goal
 
 pub clean_pass-requires-clause-keeps : goal.clean_pass-requires-clause-keeps
@@ -19,7 +19,7 @@ clean_pass-requires-clause-running g c =
 
 pub returns-in-Ok-clause-whole : goal.returns-in-Ok-clause-whole
 returns-in-Ok-clause-whole g c =
-    c.clean_pass.ensures.keeps.0.whole (ok-of c.clean_pass.result _ c.in-Ok._swept c.in-Ok.is c.clean_pass.ensures.running)
+    c.clean_pass.ensures.keeps.0.whole c.in-Ok.ensures.running
 
 pub returns-in-Ok-clause-later : goal.returns-in-Ok-clause-later
 returns-in-Ok-clause-later g c =
@@ -49,7 +49,7 @@ pub returns-in-Err-clause-whole : goal.returns-in-Err-clause-whole
 returns-in-Err-clause-whole g c =
     full-ok c.run_of.result c.fault_of.result (IsWhole g.D.Shelf.told c.clean_pass.new.actor.house) c.fault_of.ensures
     (λ entries is. c.clean_pass.ensures.keeps.0.whole (cleans-open g.D.Shelf.told g.D.Shelf.faults (own_alone (seen_in c.args.house.now)) (own_alone (seen_in c.clean_pass.new.actor)) c.args.house.now c.clean_pass.new.actor c.in-Err.why
-    (err-of c.clean_pass.result _ c.in-Err.why c.in-Err.is c.clean_pass.ensures.less) c.run_of.result c.run_of.ensures entries is))
+    c.in-Err.ensures.less c.run_of.result c.run_of.ensures entries is))
 
 pub returns-in-Err-clause-later : goal.returns-in-Err-clause-later
 returns-in-Err-clause-later g c =
@@ -65,37 +65,37 @@ pub returns-in-Err-clause-cause : goal.returns-in-Err-clause-cause
 returns-in-Err-clause-cause g c =
     stops-cause g.D.Shelf.faults c.args.house.now c.clean_pass.new.actor c.clean_pass.ensures.later c.requires.whole.ready.kept.running c.run_of.result c.fault_of.result c.fault_of.ensures
     (cleans-shut g.D.Shelf.told g.D.Shelf.faults (own_alone (seen_in c.args.house.now)) (own_alone (seen_in c.clean_pass.new.actor)) c.args.house.now c.clean_pass.new.actor c.in-Err.why
-    (err-of c.clean_pass.result _ c.in-Err.why c.in-Err.is c.clean_pass.ensures.less) c.run_of.result c.run_of.ensures)
+    c.in-Err.ensures.less c.run_of.result c.run_of.ensures)
 
 pub returns-in-Err-clause-shut : goal.returns-in-Err-clause-shut
 returns-in-Err-clause-shut g c =
     stops-shut g.D.Shelf.faults c.args.house.now c.clean_pass.new.actor c.clean_pass.ensures.later c.requires.whole.ready.kept.running c.run_of.result c.fault_of.result c.fault_of.ensures
     (cleans-shut g.D.Shelf.told g.D.Shelf.faults (own_alone (seen_in c.args.house.now)) (own_alone (seen_in c.clean_pass.new.actor)) c.args.house.now c.clean_pass.new.actor c.in-Err.why
-    (err-of c.clean_pass.result _ c.in-Err.why c.in-Err.is c.clean_pass.ensures.less) c.run_of.result c.run_of.ensures)
+    c.in-Err.ensures.less c.run_of.result c.run_of.ensures)
 
 pub returns-in-Ok-clause-added : goal.returns-in-Ok-clause-added
 returns-in-Ok-clause-added g c =
     swept-beside g.D.Shelf.told g.D.Shelf.faults (own_alone (seen_in c.args.house.now)) (own_alone (seen_in c.clean_pass.new.actor)) c.args.house.now c.clean_pass.new.actor c.in-Ok._swept
-    (ok-of c.clean_pass.result _ c.in-Ok._swept c.in-Ok.is c.clean_pass.ensures.passes)
+    c.in-Ok.ensures.passes
 
 pub returns-in-Err-clause-added : goal.returns-in-Err-clause-added
 returns-in-Err-clause-added g c =
     full-ok c.run_of.result c.fault_of.result (AddsBeside IsCleaning (entries_of c.args.house.now.house) (entries_of c.clean_pass.new.actor.house)) c.fault_of.ensures
     (λ entries is. swept-some g.D.Shelf.told g.D.Shelf.faults (own_alone (seen_in c.args.house.now)) (own_alone (seen_in c.clean_pass.new.actor)) c.args.house.now c.clean_pass.new.actor c.in-Err.why
-    (err-of c.clean_pass.result _ c.in-Err.why c.in-Err.is c.clean_pass.ensures.less))
+    c.in-Err.ensures.less)
 
 pub returns-in-Err-clause-stopped : goal.returns-in-Err-clause-stopped
 returns-in-Err-clause-stopped g c =
     swept-stopped g.D.Shelf.told g.D.Shelf.faults (own_alone (seen_in c.args.house.now)) (own_alone (seen_in c.clean_pass.new.actor)) c.args.house.now c.clean_pass.new.actor c.run_of.result c.fault_of.result c.fault_of.ensures c.clean_pass.ensures.later c.clean_pass.ensures.keeps.0 c.requires.begun
-    c.in-Err.why c.run_of.ensures (err-of c.clean_pass.result _ c.in-Err.why c.in-Err.is c.clean_pass.ensures.less)
+    c.in-Err.why c.run_of.ensures c.in-Err.ensures.less
 
 pub returns-in-Ok-clause-done : goal.returns-in-Ok-clause-done
 returns-in-Ok-clause-done g c =
     swept-done g.D.Shelf.told g.D.Shelf.faults (own_alone (seen_in c.args.house.now)) (own_alone (seen_in c.clean_pass.new.actor)) c.args.house.now c.clean_pass.new.actor c.in-Ok._swept
-    (ok-of c.clean_pass.result _ c.in-Ok._swept c.in-Ok.is c.clean_pass.ensures.passes)
+    c.in-Ok.ensures.passes
 
 pub returns-in-Err-clause-done : goal.returns-in-Err-clause-done
 returns-in-Err-clause-done g c =
     full-ok c.run_of.result c.fault_of.result (Cleans (entries_of c.args.house.now.house) (entries_of c.clean_pass.new.actor.house)) c.fault_of.ensures
     (λ entries is. swept-less g.D.Shelf.told g.D.Shelf.faults (own_alone (seen_in c.args.house.now)) (own_alone (seen_in c.clean_pass.new.actor)) c.args.house.now c.clean_pass.new.actor c.in-Err.why
-    (err-of c.clean_pass.result _ c.in-Err.why c.in-Err.is c.clean_pass.ensures.less))
+    c.in-Err.ensures.less)

@@ -8,12 +8,12 @@ use Rattle.hv_session.specs.hv_beginning.specs.hv_steps.specs.hv_table_reader.sp
 use Rattle.hv_program.specs.Background.{IsCompacting, Initiated, WorksOne, Compacts}
 use Rattle.hv_program.specs.Beside.{AddsBeside, StopsBeside}
 use Rattle.hv_program.proofs.Leaving.{beside-some, stops-then}
-use Rattle.hv_program.proofs.Passed.{ok-of, err-of, err-then, ok-then, later-then, beside-then, cause-then}
+use Rattle.hv_program.proofs.Passed.{err-then, ok-then, later-then, beside-then, cause-then}
 use Rattle.hv_program.proofs.background.compact.Goals as goal
 
 pub do_one-requires-clause-whole : goal.do_one-requires-clause-whole
 do_one-requires-clause-whole g c =
-    ok-of c.ask_for_due.result _ _ c.in-Ok.is c.ask_for_due.ensures.whole
+    c.in-Ok.ensures.whole
 
 pub do_one-requires-clause-hard : goal.do_one-requires-clause-hard
 do_one-requires-clause-hard g c =
@@ -22,13 +22,13 @@ do_one-requires-clause-hard g c =
 pub do_one-requires-clause-begun : goal.do_one-requires-clause-begun
 do_one-requires-clause-begun g c =
     beside-some IsCompacting (entries_of c.args.house.now.house) (entries_of c.ask_for_due.new.house.house)
-    (ok-of c.ask_for_due.result _ _ c.in-Ok.is c.ask_for_due.ensures.added) c.requires.begun
+    c.in-Ok.ensures.added c.requires.begun
 
 pub returns-in-Ok-clause-stopped : goal.returns-in-Ok-clause-stopped
 returns-in-Ok-clause-stopped g c =
     let first : AddsBeside IsCompacting (entries_of c.args.house.now.house) (entries_of c.ask_for_due.new.house.house) =
-    ok-of c.ask_for_due.result _ _ c.in-Ok.is c.ask_for_due.ensures.added in
-    let whole : IsWhole g.D.Shelf.told c.ask_for_due.new.house.house = ok-of c.ask_for_due.result _ _ c.in-Ok.is c.ask_for_due.ensures.whole in
+    c.in-Ok.ensures.added in
+    let whole : IsWhole g.D.Shelf.told c.ask_for_due.new.house.house = c.in-Ok.ensures.whole in
     err-then c.do_one.result
     (λ (why : HouseFault). StopsBeside g.D.Shelf.told IsCompacting why c.ask_for_due.new.house.house c.do_one.new.house.house)
     (λ (why : HouseFault). StopsBeside g.D.Shelf.told IsCompacting why c.args.house.now.house c.do_one.new.house.house)
@@ -39,7 +39,7 @@ returns-in-Ok-clause-stopped g c =
 pub returns-in-Ok-clause-added : goal.returns-in-Ok-clause-added
 returns-in-Ok-clause-added g c =
     let first : AddsBeside IsCompacting (entries_of c.args.house.now.house) (entries_of c.ask_for_due.new.house.house) =
-    ok-of c.ask_for_due.result _ _ c.in-Ok.is c.ask_for_due.ensures.added in
+    c.in-Ok.ensures.added in
     ok-then c.do_one.result (AddsBeside IsCompacting (entries_of c.ask_for_due.new.house.house) (entries_of c.do_one.new.house.house))
     (AddsBeside IsCompacting (entries_of c.args.house.now.house) (entries_of c.do_one.new.house.house))
     (λ next. beside-then IsCompacting (entries_of c.args.house.now.house) (entries_of c.ask_for_due.new.house.house) (entries_of c.do_one.new.house.house) first next)
@@ -48,7 +48,7 @@ returns-in-Ok-clause-added g c =
 pub returns-in-Ok-clause-later : goal.returns-in-Ok-clause-later
 returns-in-Ok-clause-later g c =
     let first : IsLater g.D.Shelf.faults (seen_in c.args.house.now) (seen_in c.ask_for_due.new.house) =
-    ok-of c.ask_for_due.result _ _ c.in-Ok.is c.ask_for_due.ensures.later in
+    c.in-Ok.ensures.later in
     ok-then c.do_one.result (IsLater g.D.Shelf.faults (seen_in c.ask_for_due.new.house) (seen_in c.do_one.new.house))
     (IsLater g.D.Shelf.faults (seen_in c.args.house.now) (seen_in c.do_one.new.house))
     (λ next. later-then g.D.Shelf.faults c.args.house.now c.ask_for_due.new.house c.do_one.new.house first next)
@@ -57,7 +57,7 @@ returns-in-Ok-clause-later g c =
 pub returns-in-Ok-clause-done : goal.returns-in-Ok-clause-done
 returns-in-Ok-clause-done g c =
     let first : Initiated (entries_of c.args.house.now.house) (entries_of c.ask_for_due.new.house.house) =
-    ok-of c.ask_for_due.result _ _ c.in-Ok.is c.ask_for_due.ensures.done in
+    c.in-Ok.ensures.done in
     ok-then c.do_one.result (WorksOne (entries_of c.ask_for_due.new.house.house) (entries_of c.do_one.new.house.house))
     (Compacts (entries_of c.args.house.now.house) (entries_of c.do_one.new.house.house))
     (λ next. record { between = entries_of c.ask_for_due.new.house.house; initiated = first; works = next })
@@ -74,20 +74,20 @@ returns-in-Ok-clause-opens g c =
 pub returns-in-Ok-clause-cause : goal.returns-in-Ok-clause-cause
 returns-in-Ok-clause-cause g c =
     cause-then (g.D.Shelf.faults c.args.house.now.house.shelf) (g.D.Shelf.faults c.ask_for_due.new.house.house.shelf) (g.D.Shelf.faults c.do_one.new.house.house.shelf)
-    c.ask_for_due.ensures.cause.later c.do_one.result c.do_one.ensures.cause
+    c.in-Ok.ensures.cause.later c.do_one.result c.do_one.ensures.cause
 
 pub returns-in-Err-clause-stopped : goal.returns-in-Err-clause-stopped
 returns-in-Err-clause-stopped g c =
-    err-of c.ask_for_due.result _ c.in-Err.why c.in-Err.is c.ask_for_due.ensures.stopped
+    c.in-Err.ensures.stopped
 
 pub returns-in-Err-clause-opens : goal.returns-in-Err-clause-opens
 returns-in-Err-clause-opens g c =
-    λ is. err-of c.ask_for_due.result _ c.in-Err.why c.in-Err.is (c.ask_for_due.ensures.opens is)
+    c.in-Err.ensures.opens
 
 pub returns-in-Err-clause-cause : goal.returns-in-Err-clause-cause
 returns-in-Err-clause-cause g c =
-    record { later = c.ask_for_due.ensures.cause.later; failed = err-of c.ask_for_due.result _ c.in-Err.why c.in-Err.is c.ask_for_due.ensures.cause.failed }
+    c.in-Err.ensures.cause
 
 pub returns-in-Err-clause-shut : goal.returns-in-Err-clause-shut
 returns-in-Err-clause-shut g c =
-    err-of c.ask_for_due.result _ c.in-Err.why c.in-Err.is c.ask_for_due.ensures.shut
+    c.in-Err.ensures.shut

@@ -5,7 +5,7 @@ use Rattle.hv_session.specs.hv_beginning.specs.hv_steps.specs.hv_table_reader.sp
 use Rattle.hv_program.specs.Background.{IsCompacting, WorksOne}
 use Rattle.hv_program.specs.Beside.{AddsBeside}
 use Rattle.hv_program.proofs.Sessions.{is-kept, shuts-kept}
-use Rattle.hv_program.proofs.Passed.{ok-of, err-of, full-ok, stops-err, start-same, still-opens, stops-shut, stops-cause, done-cause}
+use Rattle.hv_program.proofs.Passed.{full-ok, stops-err, start-same, still-opens, stops-shut, stops-cause, done-cause}
 use Rattle.hv_program.proofs.Leaves.{one-stopped}
 use Rattle.hv_program.proofs.Worked.{one-done, one-beside, one-some, one-full, one-open, one-shut}
 use Rattle.hv_program.proofs.background.do_one.Goals as goal
@@ -20,7 +20,7 @@ compact_one-requires-clause-running g c =
 
 pub returns-in-Ok-clause-whole : goal.returns-in-Ok-clause-whole
 returns-in-Ok-clause-whole g c =
-    c.compact_one.ensures.keeps.0.whole (ok-of c.compact_one.result _ c.in-Ok._done c.in-Ok.is c.compact_one.ensures.running)
+    c.compact_one.ensures.keeps.0.whole c.in-Ok.ensures.running
 
 pub returns-in-Ok-clause-later : goal.returns-in-Ok-clause-later
 returns-in-Ok-clause-later g c =
@@ -50,7 +50,7 @@ pub returns-in-Err-clause-whole : goal.returns-in-Err-clause-whole
 returns-in-Err-clause-whole g c =
     full-ok c.in-Err.why c.fault_of.result (IsWhole g.D.Shelf.told c.compact_one.new.actor.house) c.fault_of.ensures
     (λ entries is. c.compact_one.ensures.keeps.0.whole (one-open g.D.Shelf.told g.D.Shelf.faults (own_alone (seen_in c.args.house.now)) (own_alone (seen_in c.compact_one.new.actor)) c.args.house.now c.compact_one.new.actor c.in-Err.why
-    (err-of c.compact_one.result _ c.in-Err.why c.in-Err.is c.compact_one.ensures.stops) entries is))
+    c.in-Err.ensures.stops entries is))
 
 pub returns-in-Err-clause-later : goal.returns-in-Err-clause-later
 returns-in-Err-clause-later g c =
@@ -66,38 +66,38 @@ pub returns-in-Err-clause-cause : goal.returns-in-Err-clause-cause
 returns-in-Err-clause-cause g c =
     stops-cause g.D.Shelf.faults c.args.house.now c.compact_one.new.actor c.compact_one.ensures.later c.requires.whole.ready.kept.running c.in-Err.why c.fault_of.result c.fault_of.ensures
     (one-shut g.D.Shelf.told g.D.Shelf.faults (own_alone (seen_in c.args.house.now)) (own_alone (seen_in c.compact_one.new.actor)) c.args.house.now c.compact_one.new.actor c.in-Err.why
-    (err-of c.compact_one.result _ c.in-Err.why c.in-Err.is c.compact_one.ensures.stops))
+    c.in-Err.ensures.stops)
 
 pub returns-in-Err-clause-shut : goal.returns-in-Err-clause-shut
 returns-in-Err-clause-shut g c =
     stops-shut g.D.Shelf.faults c.args.house.now c.compact_one.new.actor c.compact_one.ensures.later c.requires.whole.ready.kept.running c.in-Err.why c.fault_of.result c.fault_of.ensures
     (one-shut g.D.Shelf.told g.D.Shelf.faults (own_alone (seen_in c.args.house.now)) (own_alone (seen_in c.compact_one.new.actor)) c.args.house.now c.compact_one.new.actor c.in-Err.why
-    (err-of c.compact_one.result _ c.in-Err.why c.in-Err.is c.compact_one.ensures.stops))
+    c.in-Err.ensures.stops)
 
 pub returns-in-Ok-clause-added : goal.returns-in-Ok-clause-added
 returns-in-Ok-clause-added g c =
     one-beside g.D.Shelf.told g.D.Shelf.faults (own_alone (seen_in c.args.house.now)) (own_alone (seen_in c.compact_one.new.actor)) c.args.house.now c.compact_one.new.actor c.in-Ok._done
-    (ok-of c.compact_one.result _ c.in-Ok._done c.in-Ok.is c.compact_one.ensures.compacts)
+    c.in-Ok.ensures.compacts
 
 pub returns-in-Ok-clause-done : goal.returns-in-Ok-clause-done
 returns-in-Ok-clause-done g c =
     one-done g.D.Shelf.told g.D.Shelf.faults (own_alone (seen_in c.args.house.now)) (own_alone (seen_in c.compact_one.new.actor)) c.args.house.now c.compact_one.new.actor c.in-Ok._done
-    (c.compact_one.ensures.keeps.0.whole (ok-of c.compact_one.result _ c.in-Ok._done c.in-Ok.is c.compact_one.ensures.running))
-    (ok-of c.compact_one.result _ c.in-Ok._done c.in-Ok.is c.compact_one.ensures.compacts)
+    (c.compact_one.ensures.keeps.0.whole c.in-Ok.ensures.running)
+    c.in-Ok.ensures.compacts
 
 pub returns-in-Err-clause-added : goal.returns-in-Err-clause-added
 returns-in-Err-clause-added g c =
     full-ok c.in-Err.why c.fault_of.result (AddsBeside IsCompacting (entries_of c.args.house.now.house) (entries_of c.compact_one.new.actor.house)) c.fault_of.ensures
     (λ entries is. one-some g.D.Shelf.told g.D.Shelf.faults (own_alone (seen_in c.args.house.now)) (own_alone (seen_in c.compact_one.new.actor)) c.args.house.now c.compact_one.new.actor c.in-Err.why
-    (err-of c.compact_one.result _ c.in-Err.why c.in-Err.is c.compact_one.ensures.stops))
+    c.in-Err.ensures.stops)
 
 pub returns-in-Err-clause-done : goal.returns-in-Err-clause-done
 returns-in-Err-clause-done g c =
     full-ok c.in-Err.why c.fault_of.result (WorksOne (entries_of c.args.house.now.house) (entries_of c.compact_one.new.actor.house)) c.fault_of.ensures
     (one-full g.D.Shelf.told g.D.Shelf.faults (own_alone (seen_in c.args.house.now)) (own_alone (seen_in c.compact_one.new.actor)) c.args.house.now c.compact_one.new.actor c.in-Err.why
-    (err-of c.compact_one.result _ c.in-Err.why c.in-Err.is c.compact_one.ensures.stops))
+    c.in-Err.ensures.stops)
 
 pub returns-in-Err-clause-stopped : goal.returns-in-Err-clause-stopped
 returns-in-Err-clause-stopped g c =
     one-stopped g.D.Shelf.told g.D.Shelf.faults (own_alone (seen_in c.args.house.now)) (own_alone (seen_in c.compact_one.new.actor)) c.args.house.now c.compact_one.new.actor c.in-Err.why c.fault_of.result c.fault_of.ensures c.compact_one.ensures.later c.compact_one.ensures.keeps.0 c.requires.begun
-    (err-of c.compact_one.result _ c.in-Err.why c.in-Err.is c.compact_one.ensures.stops)
+    c.in-Err.ensures.stops
