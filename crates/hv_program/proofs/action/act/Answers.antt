@@ -35,7 +35,7 @@ returns-in-Compact-clause-later g c =
 
 pub returns-in-Clean-clause-later : goal.returns-in-Clean-clause-later
 returns-in-Clean-clause-later g c =
-    quiet-fact c.clean.result c.quietly.result (IsLater g.D.Shelf.faults (seen_in c.args.house.now) (seen_in c.clean.new.house)) c.quietly.ensures c.clean.ensures.later
+    quiet-fact c.clean.result c.quietly-in-Clean.result (IsLater g.D.Shelf.faults (seen_in c.args.house.now) (seen_in c.clean.new.house)) c.quietly-in-Clean.ensures c.clean.ensures.later
 
 pub returns-in-Compact-clause-whole : goal.returns-in-Compact-clause-whole
 returns-in-Compact-clause-whole g c = quiet-fact c.compact.result c.quietly.result (IsWhole g.D.Shelf.told c.compact.new.house.house) c.quietly.ensures c.compact.ensures.whole
@@ -83,46 +83,46 @@ pub returns-in-Compact-clause-shut : goal.returns-in-Compact-clause-shut
 returns-in-Compact-clause-shut g c = quiet-err c.compact.result c.quietly.result (IsShutFor c.compact.new.house) c.quietly.ensures c.compact.ensures.shut
 
 pub returns-in-Clean-clause-whole : goal.returns-in-Clean-clause-whole
-returns-in-Clean-clause-whole g c = quiet-fact c.clean.result c.quietly.result (IsWhole g.D.Shelf.told c.clean.new.house.house) c.quietly.ensures c.clean.ensures.whole
+returns-in-Clean-clause-whole g c = quiet-fact c.clean.result c.quietly-in-Clean.result (IsWhole g.D.Shelf.told c.clean.new.house.house) c.quietly-in-Clean.ensures c.clean.ensures.whole
 
 pub returns-in-Clean-clause-held : goal.returns-in-Clean-clause-held
 returns-in-Clean-clause-held g c =
-    clean-held g.D.Shelf.told c.args.house.now.house c.clean.new.house.house c.args.held.now.items c.clean.result c.quietly.result c.quietly.ensures c.clean.ensures.whole c.clean.ensures.added
+    clean-held g.D.Shelf.told c.args.house.now.house c.clean.new.house.house c.args.held.now.items c.clean.result c.quietly-in-Clean.result c.quietly-in-Clean.ensures c.clean.ensures.whole c.clean.ensures.added
     c.requires.held
 
 pub returns-in-Clean-clause-truly : goal.returns-in-Clean-clause-truly
 returns-in-Clean-clause-truly g c =
-    clean-truly g.D.Shelf.told c.args.house.now.house c.clean.new.house.house c.args.held.now.items c.clean.result c.quietly.result c.quietly.ensures c.clean.ensures.whole c.clean.ensures.added
+    clean-truly g.D.Shelf.told c.args.house.now.house c.clean.new.house.house c.args.held.now.items c.clean.result c.quietly-in-Clean.result c.quietly-in-Clean.ensures c.clean.ensures.whole c.clean.ensures.added
     c.clean.ensures.start c.requires.truly
 
 pub returns-in-Clean-clause-can : goal.returns-in-Clean-clause-can
 returns-in-Clean-clause-can g c =
-    quiet-can g.D.Shelf.told g.D.Shelf.faults c.args.house.now c.clean.new.house c.args.held.now.items c.clean.result c.quietly.result c.quietly.ensures c.clean.ensures.later
+    quiet-can g.D.Shelf.told g.D.Shelf.faults c.args.house.now c.clean.new.house c.args.held.now.items c.clean.result c.quietly-in-Clean.result c.quietly-in-Clean.ensures c.clean.ensures.later
     c.requires.can
 
 pub returns-in-Clean-clause-acted : goal.returns-in-Clean-clause-acted
 returns-in-Clean-clause-acted g c = λ is.
     let before = standing_of c.args.house.now.house c.args.held.now.items in
     let now = standing_of c.clean.new.house.house c.args.held.now.items in
-    subst (λ (act : Action). IfOk c.quietly.result (λ (reply : Reply). Acts (g.D.Shelf.faults c.args.house.now.house.shelf) (g.D.Shelf.faults c.clean.new.house.house.shelf) before now act reply.text reply.refused))
+    subst (λ (act : Action). IfOk c.quietly-in-Clean.result (λ (reply : Reply). Acts (g.D.Shelf.faults c.args.house.now.house.shelf) (g.D.Shelf.faults c.clean.new.house.house.shelf) before now act reply.text reply.refused))
     (sym c.in-Clean.is)
-    (clean-acts g.D.Shelf.told c.args.house.now.house c.clean.new.house.house c.args.held.now.items c.clean.result c.quietly.result c.quietly.ensures c.clean.ensures.whole c.clean.ensures.added
+    (clean-acts g.D.Shelf.told c.args.house.now.house c.clean.new.house.house c.args.held.now.items c.clean.result c.quietly-in-Clean.result c.quietly-in-Clean.ensures c.clean.ensures.whole c.clean.ensures.added
     (g.D.Shelf.faults c.args.house.now.house.shelf) (g.D.Shelf.faults c.clean.new.house.house.shelf)
     c.clean.ensures.done)
 
 pub returns-in-Clean-clause-stopped : goal.returns-in-Clean-clause-stopped
 returns-in-Clean-clause-stopped g c =
     let before = standing_of c.args.house.now.house c.args.held.now.items in
-    subst (λ (act : Action). IfErr c.quietly.result (λ (why : HouseFault). Stops (IsToldHouse g.D.Shelf.told c.args.house.now.house) why (g.D.Shelf.told c.clean.new.house.house.shelf) before act (entries_of c.clean.new.house.house)))
+    subst (λ (act : Action). IfErr c.quietly-in-Clean.result (λ (why : HouseFault). Stops (IsToldHouse g.D.Shelf.told c.args.house.now.house) why (g.D.Shelf.told c.clean.new.house.house.shelf) before act (entries_of c.clean.new.house.house)))
     (sym c.in-Clean.is)
-    (clean-stops g.D.Shelf.told c.args.house.now.house c.clean.new.house.house c.args.held.now.items c.clean.result c.quietly.result c.quietly.ensures c.clean.ensures.stopped)
+    (clean-stops g.D.Shelf.told c.args.house.now.house c.clean.new.house.house c.args.held.now.items c.clean.result c.quietly-in-Clean.result c.quietly-in-Clean.ensures c.clean.ensures.stopped)
 
 pub returns-in-Clean-clause-opens : goal.returns-in-Clean-clause-opens
 returns-in-Clean-clause-opens g c = λ is.
-    quiet-err c.clean.result c.quietly.result (λ why. StillOpens g.D.Shelf.told c.clean.new.house.house) c.quietly.ensures (c.clean.ensures.opens is)
+    quiet-err c.clean.result c.quietly-in-Clean.result (λ why. StillOpens g.D.Shelf.told c.clean.new.house.house) c.quietly-in-Clean.ensures (c.clean.ensures.opens is)
 
 pub returns-in-Clean-clause-cause : goal.returns-in-Clean-clause-cause
-returns-in-Clean-clause-cause g c = quiet-cause _ _ c.clean.result c.quietly.result c.quietly.ensures c.clean.ensures.cause
+returns-in-Clean-clause-cause g c = quiet-cause _ _ c.clean.result c.quietly-in-Clean.result c.quietly-in-Clean.ensures c.clean.ensures.cause
 
 pub returns-in-Clean-clause-shut : goal.returns-in-Clean-clause-shut
-returns-in-Clean-clause-shut g c = quiet-err c.clean.result c.quietly.result (IsShutFor c.clean.new.house) c.quietly.ensures c.clean.ensures.shut
+returns-in-Clean-clause-shut g c = quiet-err c.clean.result c.quietly-in-Clean.result (IsShutFor c.clean.new.house) c.quietly-in-Clean.ensures c.clean.ensures.shut
