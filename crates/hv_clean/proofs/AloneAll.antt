@@ -222,11 +222,15 @@ gathers s n (suc count) (suc most) below =
 
 last-least : (ids : List LostId) (last : ℕ) → last ≤ last_from last ids
 last-least [] last = le_refl last
-last-least (id ∷ ids) last = by (nat_lt last id.table.0) refl
+last-least (id ∷ ids) last = by (nat_lt last id.table.0) refl (last-least ids id.table.0) (last-least ids last)
   where
-    by : (b : Bool) → nat_lt last id.table.0 ≡ b → last ≤ last_from (if b then id.table.0 else last) ids
-    by true e = let low = ltb-true last id.table.0 e in le_trans (omega (arith, low)) (last-least ids id.table.0)
-    by false e = last-least ids last
+    by : (b : Bool) → nat_lt last id.table.0 ≡ b → id.table.0 ≤ last_from id.table.0 ids → last ≤ last_from last ids
+        → last ≤ last_from (if b then id.table.0 else last) ids
+    by true e high same =
+        let low = ltb-true last id.table.0 e in
+        let up : last ≤ id.table.0 = omega (arith, low) in
+        le_trans up high
+    by false e high same = same
 
 last-bounds : (ids : List LostId) (last : ℕ) → AllByRecursion (λ (id : LostId). id.table.0 ≤ last_from last ids) ids
 last-bounds [] last = tt

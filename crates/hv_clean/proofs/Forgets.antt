@@ -267,11 +267,12 @@ module _ {D : Type 0} (told : D → Option Store) (faults : D → ℕ) (between 
 
 none-kept : {A : Type 0} (p : A → Bool) (xs : List A) → list_any p xs ≡ false → filter p xs ≡ []
 none-kept p [] none = refl
-none-kept p (x ∷ xs) none = by (p x) none
+none-kept p (x ∷ xs) none = by (p x) none (λ e. none-kept p xs e)
   where
-    by : (b : Bool) → (if b then true else list_any p xs) ≡ false → (if b then x ∷ filter p xs else filter p xs) ≡ []
-    by true e = absurd (true≢false e)
-    by false e = none-kept p xs e
+    by : (b : Bool) → (if b then true else list_any p xs) ≡ false → (list_any p xs ≡ false → filter p xs ≡ [])
+        → (if b then x ∷ filter p xs else filter p xs) ≡ []
+    by true e rest = absurd (true≢false e)
+    by false e rest = rest e
 
 pub no-ids : (table : ℕ) (ids : List LostId) → is_any_of table ids ≡ false → ids_of table ids ≡ []
 no-ids table ids none = none-kept (is_of_table table) ids none
