@@ -1,5 +1,5 @@
 -- Where others add nothing, no call on files failed and nothing was listed still: each aborted id is forgotten.
-use Rattle.std.proofs.Common.{◌≡◌, ◌⊎◌, inl, inr, ℕ, ◌+◌, ◌-◌, ◌^◌, ◌≤◌, ◌==◌, Bool, true, false, true≢false, cond, Option, Some, None, List, [], ◌∷◌, ◌++◌, map, not, refl, sym, ap, ◌∙◌, subst, append-nil, append_assoc, le_trans, le_refl, arith, eqb-true, ltb-false}
+use Rattle.std.proofs.Common.{◌||◌, ◌≡◌, ◌⊎◌, inl, inr, ℕ, ◌+◌, ◌-◌, ◌^◌, ◌≤◌, ◌==◌, Bool, true, false, true≢false, cond, Option, Some, None, List, [], ◌∷◌, ◌++◌, map, not, refl, sym, ap, ◌∙◌, subst, append-nil, append_assoc, le_trans, le_refl, arith, eqb-true, ltb-false}
 use Rattle.std.proofs.lemmas.Bool.{and_parts, false_from_ne_true, eqb-false}
 use Rattle.std.specs.Prelude.{if◌then◌else◌, ◌&&◌, nat_lt, IsSomeAnd}
 use Rattle.std.specs.List.{AllByRecursion, list_any}
@@ -44,11 +44,11 @@ AreApart (x ∷ xs) = AllByRecursion (Apart x) xs × AreApart xs
 
 -- one more that isn't it
 any-more : {A : Type 0} (p : A → Bool) (xs : List A) (x : A) → list_any p xs ≡ false → p x ≡ false → list_any p (xs ++ x ∷ []) ≡ false
-any-more p [] x none not_ = ap (λ (b : Bool). if b then true else false) not_
+any-more p [] x none not_ = ap (λ (b : Bool). b || false) not_
 any-more p (y ∷ xs) x none not_ = by (p y) none (λ e. any-more p xs x e not_)
   where
-    by : (b : Bool) → (if b then true else list_any p xs) ≡ false → (list_any p xs ≡ false → list_any p (xs ++ x ∷ []) ≡ false)
-        → (if b then true else list_any p (xs ++ x ∷ [])) ≡ false
+    by : (b : Bool) → (b || list_any p xs) ≡ false → (list_any p xs ≡ false → list_any p (xs ++ x ∷ []) ≡ false)
+        → (b || list_any p (xs ++ x ∷ [])) ≡ false
     by true e rest = absurd (true≢false e)
     by false e rest = rest e
 
