@@ -1,5 +1,5 @@
 -- Where others add nothing: what a whole pass adds to the book.
-use Rattle.std.proofs.Common.{◌≡◌, ℕ, zero, suc, not, Some, None, ◌+◌, ◌<◌, ◌≤◌, ◌==◌, Bool, true, false, Option, List, [], ◌∷◌, ◌++◌, map, filter, length, refl, sym, ap, ◌∙◌, subst, append-nil, append_assoc, le_trans, le_refl, arith, eqb-true, ltb-false, ltb-true}
+use Rattle.std.proofs.Common.{◌≡◌, ℕ, zero, suc, not, Some, None, ◌+◌, ◌<◌, ◌≤◌, ◌==◌, Bool, true, false, Option, List, [], ◌∷◌, ◌++◌, map, filter, length, refl, sym, ap, ◌∙◌, subst, append-nil, le_trans, le_refl, arith, eqb-true, ltb-false, ltb-true}
 use Rattle.std.proofs.lemmas.Bool.{false_from_ne_true, eqb-false}
 use Rattle.std.proofs.lemmas.List.Elements.{filter-append}
 use Rattle.std.specs.Prelude.{if◌then◌else◌, ◌&&◌, nat_lt}
@@ -18,7 +18,7 @@ use Rattle.hv_job_acts.specs.hv_acts.specs.Told.{book_in}
 use Rattle.hv_job_acts.specs.declared.asking.LostId.{LostId}
 use Rattle.hv_job_acts.specs.Work.{each_of, one_of, id_at, is_lost_at, lost_at, given_in, lost_of, ready_in, lost_in}
 use Rattle.hv_clean.specs.Passing.{nothing, is_of_table, ids_of, last_from, last_table}
-use Rattle.hv_clean.specs.Alone.{AddsNothing, cleaned_entries, forgot_entry, cleaned_up, PassesAlone}
+use Rattle.hv_clean.specs.Alone.{AddsNothing, forgot_entry, cleaned_up, PassesAlone}
 use Rattle.hv_clean.proofs.Moved.{all-append}
 use Rattle.hv_clean.proofs.AloneJobs.{Same, all-pend, sweeps-book, asks-book, Cleans, each-cleans}
 use Rattle.hv_clean.proofs.AloneIds.{IsPending, Apart, AreApart, flat, None_, none-up, sweeps-none-less, tables-up, tables-forget}
@@ -222,15 +222,15 @@ gathers s n (suc count) (suc most) below =
 
 last-least : (ids : List LostId) (last : ℕ) → last ≤ last_from last ids
 last-least [] last = le_refl last
-last-least (id ∷ ids) last = by (last-least ids id.table.0) (last-least ids last) (nat_lt last id.table.0) refl
+last-least (id ∷ ids) last = by (nat_lt last id.table.0) refl (last-least ids id.table.0) (last-least ids last)
   where
-    by : id.table.0 ≤ last_from id.table.0 ids → last ≤ last_from last ids → (b : Bool) → nat_lt last id.table.0 ≡ b
+    by : (b : Bool) → nat_lt last id.table.0 ≡ b → id.table.0 ≤ last_from id.table.0 ids → last ≤ last_from last ids
         → last ≤ last_from (if b then id.table.0 else last) ids
-    by high same true e =
+    by true e high same =
         let low = ltb-true last id.table.0 e in
         let up : last ≤ id.table.0 = omega (arith, low) in
         le_trans up high
-    by high same false e = same
+    by false e high same = same
 
 last-bounds : (ids : List LostId) (last : ℕ) → AllByRecursion (λ (id : LostId). id.table.0 ≤ last_from last ids) ids
 last-bounds [] last = tt
@@ -238,10 +238,7 @@ last-bounds (id ∷ ids) last = (by (nat_lt last id.table.0) refl, last-bounds i
   where
     by : (b : Bool) → nat_lt last id.table.0 ≡ b → id.table.0 ≤ last_from (if b then id.table.0 else last) ids
     by true e = last-least ids id.table.0
-    by false e =
-        let low = ltb-false last id.table.0 e in
-        let up : id.table.0 ≤ last = omega (arith, low) in
-        le_trans up (last-least ids last)
+    by false e = let low = ltb-false last id.table.0 e in le_trans (omega (arith, low)) (last-least ids last)
 
 pub flat-is : (s : State) → flat (numbers_from 1 (last_table (lost_in s))) (lost_in s) ≡ lost_in s
 flat-is s =
@@ -347,7 +344,6 @@ module _ {D : Type 0} (told : D → Option Store) (faults : D → ℕ) (B : List
           swept ∙ forgotten
           ∙ ap (λ (xs : List LostId). book_in ids.house ++ map forgot_entry xs) (flat-is s1 ∙ lost)
           ∙ ap (λ (book : List Entry). book ++ map forgot_entry (lost_in s0)) (asked ∙ jobs.book)
-          ∙ append_assoc (book_in start.house) (cleaned_entries s0) (map forgot_entry (lost_in s0))
 
       last : book_in now.house ≡ cleaned_up (book_in before.house)
       last = all ∙ ap cleaned_up (asks-book told faults B rows meanwhile none before start pass.asks)

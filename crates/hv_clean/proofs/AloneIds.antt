@@ -1,5 +1,5 @@
 -- Where others add nothing, no call on files failed and nothing was listed still: each aborted id is forgotten.
-use Rattle.std.proofs.Common.{◌≡◌, ◌⊎◌, inl, inr, ℕ, ◌+◌, ◌-◌, ◌^◌, ◌≤◌, ◌==◌, Bool, true, false, true≢false, cond, Option, Some, None, List, [], ◌∷◌, ◌++◌, map, not, refl, sym, ap, ◌∙◌, subst, append-nil, append_assoc, le_trans, le_refl, arith, eqb-true, ltb-false}
+use Rattle.std.proofs.Common.{◌||◌, ◌≡◌, ◌⊎◌, inl, inr, ℕ, ◌+◌, ◌-◌, ◌^◌, ◌≤◌, ◌==◌, Bool, true, false, true≢false, cond, Option, Some, None, List, [], ◌∷◌, ◌++◌, map, not, refl, sym, ap, ◌∙◌, subst, append-nil, append_assoc, le_trans, le_refl, arith, eqb-true, ltb-false}
 use Rattle.std.proofs.lemmas.Bool.{and_parts, false_from_ne_true, eqb-false}
 use Rattle.std.specs.Prelude.{if◌then◌else◌, ◌&&◌, nat_lt, IsSomeAnd}
 use Rattle.std.specs.List.{AllByRecursion, list_any}
@@ -7,7 +7,7 @@ use Rattle.hv_shelf.specs.Disk.{Store}
 use Rattle.hv_history.specs.declared.entry.Entry.{Entry}
 use Rattle.hv_history.specs.declared.entry.Entry.TheVariants as entry
 use Rattle.hv_history.specs.declared.state.Table.{Table}
-use Rattle.hv_history.specs.State.{State, numbered, changed, forgot, after, state_of}
+use Rattle.hv_history.specs.State.{State, numbered, changed, forgot, acted, after, state_of}
 use Rattle.hv_history.specs.Jobs.{is_live_one}
 use Rattle.hv_history.specs.JobsFit.{is_aborted_id}
 use Rattle.hv_history.proofs.StateLaws.{state_of-snoc}
@@ -44,13 +44,13 @@ AreApart (x ∷ xs) = AllByRecursion (Apart x) xs × AreApart xs
 
 -- one more that isn't it
 any-more : {A : Type 0} (p : A → Bool) (xs : List A) (x : A) → list_any p xs ≡ false → p x ≡ false → list_any p (xs ++ x ∷ []) ≡ false
-any-more p [] x none not_ = ap (λ (b : Bool). if b then true else false) not_
-any-more p (y ∷ xs) x none not_ = by (λ e. any-more p xs x e not_) (p y) none
+any-more p [] x none not_ = ap (λ (b : Bool). b || false) not_
+any-more p (y ∷ xs) x none not_ = by (p y) none (λ e. any-more p xs x e not_)
   where
-    by : (list_any p xs ≡ false → list_any p (xs ++ x ∷ []) ≡ false) → (b : Bool) → (if b then true else list_any p xs) ≡ false
-        → (if b then true else list_any p (xs ++ x ∷ [])) ≡ false
-    by rest true e = absurd (true≢false e)
-    by rest false e = rest e
+    by : (b : Bool) → (b || list_any p xs) ≡ false → (list_any p xs ≡ false → list_any p (xs ++ x ∷ []) ≡ false)
+        → (b || list_any p (xs ++ x ∷ [])) ≡ false
+    by true e rest = absurd (true≢false e)
+    by false e rest = rest e
 
 not-true : (b : Bool) → not b ≡ true → b ≡ false
 not-true true e = absurd (true≢false (sym e))
@@ -72,15 +72,17 @@ lost-more s write other t differ lost =
     still : list_any (λ o. o == other) (t.forgotten ++ write ∷ []) ≡ false
     still = any-more (λ o. o == other) t.forgotten write kept (false_from_ne_true (write == other) (λ e. differ (eqb-true write other e)))
 
-pending-after : (s : State) (x y : LostId) → Apart x y → IsPending s y → IsPending (after s (entry.Forgot x.table x.write)) y
-pending-after s x y apart pending =
-    stays (numbered (changed (forgot x.write.0) s.tables x.table.0) y.table.0) ∙ by (y.table.0 == x.table.0) refl
-  where
-    -- it goes by the transactions, which stay
-    stays : (o : Option Table) → is_lost_at (after s (entry.Forgot x.table x.write)) y.write.0 o ≡ is_lost_at s y.write.0 o
-    stays None = refl
-    stays (Some t) = refl
+-- it goes by the transactions, which stay
+forgot-stays : (s : State) (x : LostId) (write : ℕ) (o : Option Table) → is_lost_at (after s (entry.Forgot x.table x.write)) write o ≡ is_lost_at s write o
+unfolding acted
+forgot-stays s x write None = refl
+forgot-stays s x write (Some t) = refl
 
+pending-after : (s : State) (x y : LostId) → Apart x y → IsPending s y → IsPending (after s (entry.Forgot x.table x.write)) y
+unfolding acted
+pending-after s x y apart pending =
+    forgot-stays s x y.write.0 (numbered (changed (forgot x.write.0) s.tables x.table.0) y.table.0) ∙ by (y.table.0 == x.table.0) refl
+  where
     there : (o : Option Table) → numbered s.tables y.table.0 ≡ o → y.table.0 ≡ x.table.0 → (y.table.0 == x.table.0) ≡ true → is_lost_at s y.write.0 o ≡ true
         → is_lost_at s y.write.0 (numbered (changed (forgot x.write.0) s.tables x.table.0) y.table.0) ≡ true
     there None is same e lost = absurd (true≢false (sym lost))
@@ -182,7 +184,7 @@ abbrev pub flat : List ℕ → List LostId → List LostId
 flat [] ids = []
 flat (table ∷ tables) ids = ids_of table ids ++ flat tables ids
 
-pub map-append : {A B : Type 0} (f : A → B) (xs ys : List A) → map f (xs ++ ys) ≡ map f xs ++ map f ys
+map-append : {A B : Type 0} (f : A → B) (xs ys : List A) → map f (xs ++ ys) ≡ map f xs ++ map f ys
 map-append f [] ys = refl
 map-append f (x ∷ xs) ys = ap (λ zs. f x ∷ zs) (map-append f xs ys)
 
@@ -299,20 +301,22 @@ module _ {D : Type 0} (told : D → Option Store) (faults : D → ℕ) (B : List
   tables-forget a b [] ids f t each zero_ pending apart =
       sweeps-book told faults B rows meanwhile none a b f t each ∙ sym (append-nil (book_in a.house))
   tables-forget a b (table ∷ tables) ids f t each zero_ pending apart =
-      by (λ pending_. tables-forget each.0 b tables ids each.1 t each.3 zero_ pending_ (apart-right (ids_of table ids) (flat tables ids) apart)) each.2
+      by each.2
+      (λ pending_. tables-forget each.0 b tables ids each.1 t each.3 zero_ pending_ (apart-right (ids_of table ids) (flat tables ids) apart))
     where
       zero-mid : None_ each.1
       zero-mid = none-up each.1 t (tables-up each.0 b tables ids each.1 t each.3) zero_
 
-      by : (AllByRecursion (IsPending (state_of (book_in each.0.house))) (flat tables ids)
+      by : ForgetsTable S a each.0 (ids_of table ids) f each.1
+          → (AllByRecursion (IsPending (state_of (book_in each.0.house))) (flat tables ids)
           → book_in b.house ≡ book_in each.0.house ++ map forgot_entry (flat tables ids))
-          → ForgetsTable S a each.0 (ids_of table ids) f each.1 → book_in b.house ≡ book_in a.house ++ map forgot_entry (flat (table ∷ tables) ids)
-      by rest (inl its) =
+          → book_in b.house ≡ book_in a.house ++ map forgot_entry (flat (table ∷ tables) ids)
+      by (inl its) further =
           let here : Forgets a each.0 (ids_of table ids) (flat tables ids) =
           each-forgets a each.0 (ids_of table ids) (flat tables ids) f each.1 its zero-mid pending apart in
-          rest here.pending
+          further here.pending
           ∙ ap (λ (es : List Entry). es ++ map forgot_entry (flat tables ids)) here.book
           ∙ append_assoc (book_in a.house) (map forgot_entry (ids_of table ids)) (map forgot_entry (flat tables ids))
           ∙ ap (λ (es : List Entry). book_in a.house ++ es) (sym (map-append forgot_entry (ids_of table ids) (flat tables ids)))
-      by rest (inr failed) =
+      by (inr failed) further =
           absurd (failed.1 (no-fault f each.1 (sweeps-up told faults B rows meanwhile a each.0 f each.1 failed.0) zero-mid.faults))

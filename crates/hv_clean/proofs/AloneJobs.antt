@@ -1,7 +1,7 @@
 -- Where others add nothing and no call on files failed: a part leaves the book, and each ready job is cleaned or held.
 use Rattle.std.proofs.Common.{◌≡◌, ◌⊎◌, inl, inr, ℕ, zero, suc, ◌+◌, ◌-◌, ◌<◌, ◌≤◌, Bool, true, false, true≢false, Option, Some, None, List, [], ◌∷◌, ◌++◌, map, filter, length, refl, sym, ap, ◌∙◌, subst, append-nil, append_assoc, le_trans, le_refl, arith}
 use Rattle.std.proofs.lemmas.List.{append_cancel_left, append_cancel_right}
-use Rattle.std.specs.Prelude.{if◌then◌else◌, ◌&&◌, is_none, IsTrue, IsSomeAnd}
+use Rattle.std.specs.Prelude.{if◌then◌else◌, ◌&&◌, is_none, IsSomeAnd}
 use Rattle.std.specs.List.{AllByRecursion}
 use Rattle.hv_base.specs.declared.ids.JobId.{JobId}
 use Rattle.hv_shelf.specs.Disk.{Store}
@@ -9,7 +9,7 @@ use Rattle.hv_history.specs.declared.entry.Entry.{Entry}
 use Rattle.hv_history.specs.declared.entry.Entry.TheVariants as entry
 use Rattle.hv_history.specs.declared.state.Transaction.{Transaction}
 use Rattle.hv_history.specs.declared.state.Table.{Table}
-use Rattle.hv_history.specs.State.{State, Job, numbered, cleaned, after, state_of}
+use Rattle.hv_history.specs.State.{State, Job, numbered, cleaned, acted, after, state_of}
 use Rattle.hv_history.specs.Legal.{profile}
 use Rattle.hv_history.specs.Jobs.{first_open, if_below, is_live_one, is_past, is_past_by, is_ready}
 use Rattle.hv_history.specs.JobsFit.{OfJob, CleanedFits, is_live_job}
@@ -87,20 +87,21 @@ pends-lower s0 s (id ∷ ids) a b le p = (le_trans le p.0, p.1, p.2, p.3)
 
 pends-from : (s0 : State) (n count : ℕ) → Pends s0 s0 n (each_of (ready_at s0) n count)
 pends-from s0 n zero = tt
-pends-from s0 n (suc count) = by (pends-from s0 (n + 1) count) (is_ready_in s0 (numbered s0.jobs n)) refl
+pends-from s0 n (suc count) = by (is_ready_in s0 (numbered s0.jobs n)) refl (pends-from s0 (n + 1) count)
   where
     above : n ≤ n + 1
     above = omega arith
 
-    by : Pends s0 s0 (n + 1) (each_of (ready_at s0) (n + 1) count) → (b : Bool) → is_ready_in s0 (numbered s0.jobs n) ≡ b
+    by : (b : Bool) → is_ready_in s0 (numbered s0.jobs n) ≡ b → Pends s0 s0 (n + 1) (each_of (ready_at s0) (n + 1) count)
         → Pends s0 s0 n ((if b then job_at n ∷ [] else []) ++ each_of (ready_at s0) (n + 1) count)
-    by rest true e = (le_refl n, refl, e, rest)
-    by rest false e = pends-lower s0 s0 (each_of (ready_at s0) (n + 1) count) n (n + 1) above rest
+    by true e rest = (le_refl n, refl, e, rest)
+    by false e rest = pends-lower s0 s0 (each_of (ready_at s0) (n + 1) count) n (n + 1) above rest
 
 pub all-pend : (s0 : State) → Pends s0 s0 1 (ready_in s0)
 all-pend s0 = pends-from s0 1 (length s0.jobs)
 
 pub pends-after : (s0 s : State) (job : JobId) (ids : List JobId) (low : ℕ) → job.0 < low → Pends s0 s low ids → Pends s0 (after s (entry.Cleaned job)) low ids
+unfolding acted
 pends-after s0 s job [] low below p = tt
 pends-after s0 s job (id ∷ ids) low below p =
     (p.0, same-changed cleaned s.jobs job.0 id.0 other ∙ p.1, p.2, pends-after s0 s job ids (id.0 + 1) further p.3)
@@ -115,6 +116,7 @@ pends-after s0 s job (id ∷ ids) low below p =
     further = omega (arith, below, above)
 
 pub same-after : (s0 s : State) (job : JobId) → Same s0 s → Same s0 (after s (entry.Cleaned job))
+unfolding acted
 same-after s0 s job same = record { transactions = same.transactions; tables = same.tables }
 
 past-same : (s0 s : State) → Same s0 s → (o : Option (ℕ × ℕ × ℕ)) → is_past_by s o ≡ is_past_by s0 o
@@ -278,8 +280,8 @@ module _ {D : Type 0} (told : D → Option Store) (faults : D → ℕ) (B : List
     same = subst (λ (book : List Entry). Same s0 (state_of book)) (sym (sweeps-book a b f t each)) same;
   }
   each-cleans s0 a b (id ∷ ids) low f t each zero_ same pends =
-      by (λ same_ pends_. each-cleans s0 each.0 b ids (id.0 + 1) each.1 t each.3 zero_ same_ pends_)
-      (one-turned s0 a each.0 id f each.1 each.2 (zero-below each.1.faults t.faults (each-up each.0 b ids each.1 t each.3) zero_) same pends.1 pends.2)
+      by (one-turned s0 a each.0 id f each.1 each.2 (zero-below each.1.faults t.faults (each-up each.0 b ids each.1 t each.3) zero_) same pends.1 pends.2)
+      (λ same_ pends_. each-cleans s0 each.0 b ids (id.0 + 1) each.1 t each.3 zero_ same_ pends_)
     where
       -- the list with this one, by whether it is free
       with-it : (b : Bool) → is_free s0 id ≡ b
@@ -291,13 +293,15 @@ module _ {D : Type 0} (told : D → Option Store) (faults : D → ℕ) (B : List
       low-next : id.0 < id.0 + 1
       low-next = omega arith
 
-      by : (Same s0 (state_of (book_in each.0.house)) → Pends s0 (state_of (book_in each.0.house)) (id.0 + 1) ids → Cleans s0 each.0 b ids)
-          → Turned s0 a each.0 id → Cleans s0 a b (id ∷ ids)
-      by behind (inl free) =
+      by : Turned s0 a each.0 id
+          → (Same s0 (state_of (book_in each.0.house)) → Pends s0 (state_of (book_in each.0.house)) (id.0 + 1) ids → Cleans s0 each.0 b ids)
+          → Cleans s0 a b (id ∷ ids)
+      by (inl free) further =
           let states : state_of (book_in each.0.house) ≡ after (state_of (book_in a.house)) (entry.Cleaned id) =
           ap state_of free.1 ∙ state_of-snoc (book_in a.house) (entry.Cleaned id) in
           let rest : Cleans s0 each.0 b ids =
-          behind (subst (Same s0) (sym states) (same-after s0 (state_of (book_in a.house)) id same))
+          further
+          (subst (Same s0) (sym states) (same-after s0 (state_of (book_in a.house)) id same))
           (subst (λ (u : State). Pends s0 u (id.0 + 1) ids) (sym states)
           (pends-after s0 (state_of (book_in a.house)) id ids (id.0 + 1) low-next pends.3)) in
           record {
@@ -305,10 +309,10 @@ module _ {D : Type 0} (told : D → Option Store) (faults : D → ℕ) (B : List
                 ∙ append_assoc (book_in a.house) (entry.Cleaned id ∷ []) (map entry.Cleaned (filter (is_free s0) ids)) ∙ with-it true free.0;
             same = rest.same;
           }
-      by behind (inr held) =
+      by (inr held) further =
           let states : state_of (book_in each.0.house) ≡ state_of (book_in a.house) = ap state_of held.1 in
           let rest : Cleans s0 each.0 b ids =
-          behind (subst (Same s0) (sym states) same)
+          further (subst (Same s0) (sym states) same)
           (subst (λ (u : State). Pends s0 u (id.0 + 1) ids) (sym states) pends.3) in
           record {
             book = rest.book ∙ ap (λ (xs : List Entry). xs ++ map entry.Cleaned (filter (is_free s0) ids)) held.1 ∙ with-it false held.0;

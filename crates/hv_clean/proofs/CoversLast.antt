@@ -12,7 +12,7 @@ use Rattle.hv_history.specs.declared.entry.Entry.{Entry}
 use Rattle.hv_history.specs.declared.entry.Entry.TheVariants as entry
 use Rattle.hv_history.specs.declared.entry.JobKind.{JobKind}
 use Rattle.hv_history.specs.declared.entry.JobKind.TheVariants as kind
-use Rattle.hv_history.specs.State.{State, Job, numbered, changed, asked_job, picked, published_at, empty_at, failed_at, cleaned, acted, after, nothing_yet}
+use Rattle.hv_history.specs.State.{State, Job, numbered, changed, asked_job, picked, published_at, empty_at, failed_at, cleaned, first_of, acted, after, nothing_yet}
 use Rattle.hv_history.specs.Legal.{profile, Fits, AllFit}
 use Rattle.hv_history.specs.Jobs.{Events, inserts, deletes, is_between, is_up_to, is_kind, is_job_of, jobs_in, events_in}
 use Rattle.hv_history.specs.JobsFit.{PickedFits, PublishedFits, EmptyFits, FailedFits, CleanedFits}
@@ -116,16 +116,12 @@ module _ (limits : Limits) (state : State) (sound : AreSoundJobs state) where
           let none : x.published ≡ None = unpublished state k low high mark x sound at fits in
           let ranges : (low, high, mark) ≡ range =
           some-one (low, high, mark) range
-          (sym (ap (λ (o : Option (ℕ × ℕ × ℕ)). first_in o) none) ∙ ap (λ (j : Job). j.published) one ∙ done) in
+          (sym (ap (λ (o : Option (ℕ × ℕ × ℕ)). first_of o (low, high, mark)) none) ∙ ap (λ (j : Job). j.published) one ∙ done) in
           inr (λ m other last there here finished.
           subst (λ (r : ℕ × ℕ × ℕ). ReachesFurther other.kind job.kind last r) ranges
           (subst (λ (j : Job). ReachesFurther other.kind j.kind last (low, high, mark)) one
           (reaches-further state k low high mark x sound at fits m other last there
           (subst (λ (j : Job). is_job_of j.table j.partition other ≡ true) (sym one) here) finished)))
-        where
-          first_in : Option (ℕ × ℕ × ℕ) → Option (ℕ × ℕ × ℕ)
-          first_in None = Some (low, high, mark)
-          first_in (Some r) = Some r
 
   was-published : (event : Entry) → Fits limits state event → (n : ℕ) (job : Job) (range : ℕ × ℕ × ℕ) → numbered (after state event).jobs n ≡ Some job
       → job.published ≡ Some range → WasPublished state job range ⊎ GoesFurther state job range
@@ -312,6 +308,7 @@ module _ (limits : Limits) (state : State) (sound : AreSoundJobs state) where
       other-was other n is here None ended name among = absurd among
       other-was other n is here (Some last) ended name among = by (was-published event fits n other last is ended)
         where
+          its : (other.table ≡ j.table) × (other.partition ≡ j.partition)
           its = job-of-is j.table j.partition other here
 
           order : last.0 ≤ last.1
@@ -340,7 +337,10 @@ module _ (limits : Limits) (state : State) (sound : AreSoundJobs state) where
           (subst (λ (p : List ℕ). IsIn name (flat_map (own_covered k) (events_in (after state event) k.table p)
           ++ flat_map (made_covered (events_in (after state event) k.table p) k) (jobs_in (after state event) k.table p))) later.partition is)))
         where
+          owns : List DirName
           owns = flat_map (own_covered j) IdsWere
+
+          mades : List DirName
           mades = flat_map (made_covered IdsWere j) (jobs_in state j.table j.partition)
 
           by : IsIn name (flat_map (own_covered k) IdsNow) ⊎ IsIn name (flat_map (made_covered IdsNow k) (jobs_in (after state event) j.table j.partition))

@@ -1,5 +1,5 @@
 -- The turns of aborted write ids, and tables that are listed.
-use Rattle.std.proofs.Common.{◌≡◌, inl, inr, ℕ, zero, suc, ◌+◌, ◌<◌, ◌==◌, Bool, true, false, true≢false, Option, Some, None, List, [], ◌∷◌, ◌++◌, filter, length, take, get_or, Result, Ok, Err, refl, sym, ap, ◌∙◌, subst, arith}
+use Rattle.std.proofs.Common.{◌≡◌, inl, inr, ℕ, zero, suc, ◌+◌, ◌<◌, ◌==◌, ◌||◌, Bool, true, false, true≢false, Option, Some, None, List, [], ◌∷◌, ◌++◌, filter, length, take, get_or, Result, Ok, Err, refl, sym, ap, ◌∙◌, subst, arith}
 use Rattle.std.specs.Prelude.{if◌then◌else◌, IfOk, IfErr, ◌&&◌, not, is_some}
 use Rattle.std.specs.List.{AllByRecursion, list_any}
 use Rattle.std.specs.Global.{Vec}
@@ -267,12 +267,12 @@ module _ {D : Type 0} (told : D → Option Store) (faults : D → ℕ) (between 
 
 none-kept : {A : Type 0} (p : A → Bool) (xs : List A) → list_any p xs ≡ false → filter p xs ≡ []
 none-kept p [] none = refl
-none-kept p (x ∷ xs) none = by (λ e. none-kept p xs e) (p x) none
+none-kept p (x ∷ xs) none = by (p x) none (λ e. none-kept p xs e)
   where
-    by : (list_any p xs ≡ false → filter p xs ≡ []) → (b : Bool) → (if b then true else list_any p xs) ≡ false
+    by : (b : Bool) → (b || list_any p xs) ≡ false → (list_any p xs ≡ false → filter p xs ≡ [])
         → (if b then x ∷ filter p xs else filter p xs) ≡ []
-    by rest true e = absurd (true≢false e)
-    by rest false e = rest e
+    by true e rest = absurd (true≢false e)
+    by false e rest = rest e
 
 pub no-ids : (table : ℕ) (ids : List LostId) → is_any_of table ids ≡ false → ids_of table ids ≡ []
 no-ids table ids none = none-kept (is_of_table table) ids none

@@ -42,15 +42,18 @@ pub record TablesFront {D : Type 0} (setting : Setting D (ToldHouse D)) (tables 
   pub its : ForgetsFront setting (ids_of table ids) swept left now
 
 -- of the aborted ids of the book at the next hold, or nothing was added yet
-abbrev pub IdsFront : {D : Type 0} → Setting D (ToldHouse D) → Swept → Moment (ToldHouse D) → Moment (ToldHouse D) → Type 0
+abbrev pub IdsFront : {D : Type 0} → Setting D (ToldHouse D) → Swept → Moment (ToldHouse D) → Moment (ToldHouse D)
+    → Type 0
 IdsFront {D = D} setting from before now =
     Asks setting before now
     ⊎ ((start : Moment (ToldHouse D)) × Asks setting before start
     × TablesFront setting (numbers_from 1 (last_table (lost_now start.house))) (lost_now start.house) from start now)
 
 -- or those of all were, and then staged directories and dropped tables come
-abbrev pub RestFront : {D : Type 0} → Setting D (ToldHouse D) → Swept → Moment (ToldHouse D) → Moment (ToldHouse D) → Type 0
-RestFront setting from before now = IdsFront setting from before now ⊎ ((swept : Swept) × ForgetsAll setting before now from swept)
+abbrev pub RestFront : {D : Type 0} → Setting D (ToldHouse D) → Swept → Moment (ToldHouse D) → Moment (ToldHouse D)
+    → Type 0
+RestFront setting from before now =
+    IdsFront setting from before now ⊎ ((swept : Swept) × ForgetsAll setting before now from swept)
 
 -- of these jobs, or those of all were and then the rest comes
 abbrev pub OverFront : {D : Type 0} → Setting D (ToldHouse D) → List JobId → Moment (ToldHouse D) → Moment (ToldHouse D)

@@ -159,8 +159,8 @@ UnnotedBy before now job from to =
     ⊎ ((HasAllGone (trail_in before) job → WasOver before now job) × (to ≡ from))
 
 -- how a turn ended behind such removals
-abbrev pub EndsTurn : {D : Type 0} → Setting D (ToldHouse D) → Moment (ToldHouse D) → Moment (ToldHouse D) → JobId → Removal
-    → Swept → Swept → Type 0
+abbrev pub EndsTurn : {D : Type 0} → Setting D (ToldHouse D) → Moment (ToldHouse D) → Moment (ToldHouse D) → JobId
+    → Removal → Swept → Swept → Type 0
 EndsTurn setting before now job removed.All from to =
     (IsCleanedNow setting before now job × (to ≡ count_cleaned from))
     ⊎ (Asks setting before now × UnnotedBy before.house now.house job from to)

@@ -2,7 +2,8 @@ ghost use Rattle.std.specs.Prelude.{◌≡◌};
 ghost use Rattle.hv_clean.specs.Passing.{one_more, count_cleaned, count_held, count_forgotten, count_listed, count_fault};
 
 /// What a pass of a cleaner did: how many jobs it noted as cleaned, how many were held by an open transaction, how many
-/// write ids it noted as forgotten, of how many a directory was listed still, and how many of its calls on files failed.
+/// write ids it noted as forgotten, of how many a directory was listed still, and how many of its calls on files
+/// failed.
 #[derive(Clone, Copy, Debug)]
 pub struct Swept {
     pub cleaned: u64,

@@ -128,8 +128,8 @@ fn forget<D: Shelf + Drop, W: Actor<D, ToldHouse<D>>>(
     }
 }
 
-/// An aborted write id's turn: its own directories are taken away, by these places of its table, and then it is noted as
-/// forgotten.
+/// An aborted write id's turn: its own directories are taken away, by these places of its table, and then it is noted
+/// as forgotten.
 fn forget_id<D: Shelf + Drop, W: Actor<D, ToldHouse<D>>>(
     alloc: Global,
     actor: &mut W,

@@ -92,8 +92,8 @@ fn pass_over<D: Shelf + Drop, W: Actor<D, ToldHouse<D>>>(
 /// One pass of a cleaner: the jobs of live tables that were ready at its first hold, by number, each of which is noted
 /// as cleaned where no transaction below its mark is open and all that it covers went; then the aborted write ids of
 /// live tables, by table and by id, each of which is noted as forgotten where none of its directories is listed; then
-/// staged directories of jobs that aren't at work, and all of dropped tables. What couldn't be taken away, or listed, is
-/// left to a later pass, and counted.
+/// staged directories of jobs that aren't at work, and all of dropped tables. What couldn't be taken away, or listed,
+/// is left to a later pass, and counted.
 ///
 /// # Errors
 /// `Store` where the journal failed or others closed the house, `Full` where there was no room for its next entry,

@@ -28,7 +28,7 @@ returns-in-Err-clause-less g c =
 
 pub remove_each-requires : goal.remove_each-requires
 remove_each-requires g c =
-    let asks = asked-so g.D.Shelf.told g.D.Shelf.faults g.W.Actor.between g.W.Actor.meanwhile g.met.W.Actor.goes_on (λ (seen : HouseSeen g.D) (r : Result _ _). AnswersSo (λ (book : List Entry) (dirs : Vec DirAt). (j : Job) → numbered (state_of book).jobs c.args.job.0 ≡ Some j → AreNamesOf (state_of book) j
+    let asks = asked-so g.D.Shelf.told g.D.Shelf.faults g.W.Actor.between g.W.Actor.meanwhile g.met.W.Actor.goes_on (λ (seen : HouseSeen g.row.D.Denot) (r : Result _ _). AnswersSo (λ (book : List Entry) (dirs : Vec DirAt). (j : Job) → numbered (state_of book).jobs c.args.job.0 ≡ Some j → AreNamesOf (state_of book) j
     → AreCovered (state_of book) j dirs.items) (book_of seen.trail) r)
     (g.W.Actor.own c.args.actor.now) (g.W.Actor.own c.hold.new.self) (g.W.Actor.house c.args.actor.now) (g.W.Actor.house c.hold.new.self) c.in-Ok.dirs c.hold.result c.in-Ok.is c.hold.ensures.held c.hold.ensures.went in
     record {
@@ -46,7 +46,7 @@ pub returns-in-Ok-remove_each-clause-cleans : goal.returns-in-Ok-remove_each-cla
 returns-in-Ok-remove_each-clause-cleans g c =
     turn-ok g.D.Shelf.told g.D.Shelf.faults g.W.Actor.between g.met.W.Actor.rows g.W.Actor.meanwhile g.met.W.Actor.goes_on c.args.job (known (g.W.Actor.own c.args.actor.now) (g.W.Actor.house c.args.actor.now)) (known (g.W.Actor.own c.hold.new.self) (g.W.Actor.house c.hold.new.self)) (known (g.W.Actor.own c.remove_each.new.actor) (g.W.Actor.house c.remove_each.new.actor)) (known (g.W.Actor.own c.end_turn.new.actor) (g.W.Actor.house c.end_turn.new.actor))
     c.in-Ok.dirs.items c.args.swept.now c.remove_each.new.swept c.end_turn.new.swept
-    (asked-so g.D.Shelf.told g.D.Shelf.faults g.W.Actor.between g.W.Actor.meanwhile g.met.W.Actor.goes_on (λ (seen : HouseSeen g.D) (r : Result _ _). AnswersSo (λ (book : List Entry) (dirs : Vec DirAt). (j : Job) → numbered (state_of book).jobs c.args.job.0 ≡ Some j → AreNamesOf (state_of book) j
+    (asked-so g.D.Shelf.told g.D.Shelf.faults g.W.Actor.between g.W.Actor.meanwhile g.met.W.Actor.goes_on (λ (seen : HouseSeen g.row.D.Denot) (r : Result _ _). AnswersSo (λ (book : List Entry) (dirs : Vec DirAt). (j : Job) → numbered (state_of book).jobs c.args.job.0 ≡ Some j → AreNamesOf (state_of book) j
     → AreCovered (state_of book) j dirs.items) (book_of seen.trail) r)
     (g.W.Actor.own c.args.actor.now) (g.W.Actor.own c.hold.new.self) (g.W.Actor.house c.args.actor.now) (g.W.Actor.house c.hold.new.self) c.in-Ok.dirs c.hold.result c.in-Ok.is c.hold.ensures.held c.hold.ensures.went)
     c.in-Ok-remove_each.ensures.sweeps (g.met.W.Actor.kept c.hold.new.self c.hold.ensures.keeps) (g.met.W.Actor.kept c.remove_each.new.actor c.remove_each.ensures.keeps)
@@ -56,12 +56,12 @@ returns-in-Ok-remove_each-clause-cleans g c =
 
 pub returns-in-Ok-remove_each-clause-less : goal.returns-in-Ok-remove_each-clause-less
 returns-in-Ok-remove_each-clause-less g c =
-    less-up g.D.Shelf.told g.D.Shelf.faults g.W.Actor.between g.met.W.Actor.rows g.W.Actor.meanwhile (known (g.W.Actor.own c.args.actor.now) (g.W.Actor.house c.args.actor.now)) (known (g.W.Actor.own c.remove_each.new.actor) (g.W.Actor.house c.remove_each.new.actor)) (known (g.W.Actor.own c.end_turn.new.actor) (g.W.Actor.house c.end_turn.new.actor)) c.args.swept.now c.remove_each.new.swept c.end_turn.result (sweeps-then g.D.Shelf.told g.D.Shelf.faults g.W.Actor.between g.met.W.Actor.rows g.W.Actor.meanwhile (known (g.W.Actor.own c.args.actor.now) (g.W.Actor.house c.args.actor.now)) (known (g.W.Actor.own c.hold.new.self) (g.W.Actor.house c.hold.new.self)) (known (g.W.Actor.own c.remove_each.new.actor) (g.W.Actor.house c.remove_each.new.actor)) c.args.swept.now c.args.swept.now c.remove_each.new.swept (asks-sweeps g.D.Shelf.told g.D.Shelf.faults g.W.Actor.between g.met.W.Actor.rows g.W.Actor.meanwhile (known (g.W.Actor.own c.args.actor.now) (g.W.Actor.house c.args.actor.now)) (known (g.W.Actor.own c.hold.new.self) (g.W.Actor.house c.hold.new.self)) c.args.swept.now (asked-so g.D.Shelf.told g.D.Shelf.faults g.W.Actor.between g.W.Actor.meanwhile g.met.W.Actor.goes_on (λ (seen : HouseSeen g.D) (r : Result _ _). AnswersSo (λ (book : List Entry) (dirs : Vec DirAt). (j : Job) → numbered (state_of book).jobs c.args.job.0 ≡ Some j → AreNamesOf (state_of book) j
+    less-up g.D.Shelf.told g.D.Shelf.faults g.W.Actor.between g.met.W.Actor.rows g.W.Actor.meanwhile (known (g.W.Actor.own c.args.actor.now) (g.W.Actor.house c.args.actor.now)) (known (g.W.Actor.own c.remove_each.new.actor) (g.W.Actor.house c.remove_each.new.actor)) (known (g.W.Actor.own c.end_turn.new.actor) (g.W.Actor.house c.end_turn.new.actor)) c.args.swept.now c.remove_each.new.swept c.end_turn.result (sweeps-then g.D.Shelf.told g.D.Shelf.faults g.W.Actor.between g.met.W.Actor.rows g.W.Actor.meanwhile (known (g.W.Actor.own c.args.actor.now) (g.W.Actor.house c.args.actor.now)) (known (g.W.Actor.own c.hold.new.self) (g.W.Actor.house c.hold.new.self)) (known (g.W.Actor.own c.remove_each.new.actor) (g.W.Actor.house c.remove_each.new.actor)) c.args.swept.now c.args.swept.now c.remove_each.new.swept (asks-sweeps g.D.Shelf.told g.D.Shelf.faults g.W.Actor.between g.met.W.Actor.rows g.W.Actor.meanwhile (known (g.W.Actor.own c.args.actor.now) (g.W.Actor.house c.args.actor.now)) (known (g.W.Actor.own c.hold.new.self) (g.W.Actor.house c.hold.new.self)) c.args.swept.now (asked-so g.D.Shelf.told g.D.Shelf.faults g.W.Actor.between g.W.Actor.meanwhile g.met.W.Actor.goes_on (λ (seen : HouseSeen g.row.D.Denot) (r : Result _ _). AnswersSo (λ (book : List Entry) (dirs : Vec DirAt). (j : Job) → numbered (state_of book).jobs c.args.job.0 ≡ Some j → AreNamesOf (state_of book) j
     → AreCovered (state_of book) j dirs.items) (book_of seen.trail) r)
     (g.W.Actor.own c.args.actor.now) (g.W.Actor.own c.hold.new.self) (g.W.Actor.house c.args.actor.now) (g.W.Actor.house c.hold.new.self) c.in-Ok.dirs c.hold.result c.in-Ok.is c.hold.ensures.held c.hold.ensures.went)) c.in-Ok-remove_each.ensures.sweeps) c.end_turn.ensures.less
 
 pub returns-in-Err-remove_each-clause-less : goal.returns-in-Err-remove_each-clause-less
 returns-in-Err-remove_each-clause-less g c =
-    less-behind g.D.Shelf.told g.D.Shelf.faults g.W.Actor.between g.met.W.Actor.rows g.W.Actor.meanwhile (known (g.W.Actor.own c.args.actor.now) (g.W.Actor.house c.args.actor.now)) (known (g.W.Actor.own c.hold.new.self) (g.W.Actor.house c.hold.new.self)) (known (g.W.Actor.own c.remove_each.new.actor) (g.W.Actor.house c.remove_each.new.actor)) c.args.swept.now c.args.swept.now c.in-Err-remove_each.why (asks-sweeps g.D.Shelf.told g.D.Shelf.faults g.W.Actor.between g.met.W.Actor.rows g.W.Actor.meanwhile (known (g.W.Actor.own c.args.actor.now) (g.W.Actor.house c.args.actor.now)) (known (g.W.Actor.own c.hold.new.self) (g.W.Actor.house c.hold.new.self)) c.args.swept.now (asked-so g.D.Shelf.told g.D.Shelf.faults g.W.Actor.between g.W.Actor.meanwhile g.met.W.Actor.goes_on (λ (seen : HouseSeen g.D) (r : Result _ _). AnswersSo (λ (book : List Entry) (dirs : Vec DirAt). (j : Job) → numbered (state_of book).jobs c.args.job.0 ≡ Some j → AreNamesOf (state_of book) j
+    less-behind g.D.Shelf.told g.D.Shelf.faults g.W.Actor.between g.met.W.Actor.rows g.W.Actor.meanwhile (known (g.W.Actor.own c.args.actor.now) (g.W.Actor.house c.args.actor.now)) (known (g.W.Actor.own c.hold.new.self) (g.W.Actor.house c.hold.new.self)) (known (g.W.Actor.own c.remove_each.new.actor) (g.W.Actor.house c.remove_each.new.actor)) c.args.swept.now c.args.swept.now c.in-Err-remove_each.why (asks-sweeps g.D.Shelf.told g.D.Shelf.faults g.W.Actor.between g.met.W.Actor.rows g.W.Actor.meanwhile (known (g.W.Actor.own c.args.actor.now) (g.W.Actor.house c.args.actor.now)) (known (g.W.Actor.own c.hold.new.self) (g.W.Actor.house c.hold.new.self)) c.args.swept.now (asked-so g.D.Shelf.told g.D.Shelf.faults g.W.Actor.between g.W.Actor.meanwhile g.met.W.Actor.goes_on (λ (seen : HouseSeen g.row.D.Denot) (r : Result _ _). AnswersSo (λ (book : List Entry) (dirs : Vec DirAt). (j : Job) → numbered (state_of book).jobs c.args.job.0 ≡ Some j → AreNamesOf (state_of book) j
     → AreCovered (state_of book) j dirs.items) (book_of seen.trail) r)
     (g.W.Actor.own c.args.actor.now) (g.W.Actor.own c.hold.new.self) (g.W.Actor.house c.args.actor.now) (g.W.Actor.house c.hold.new.self) c.in-Ok.dirs c.hold.result c.in-Ok.is c.hold.ensures.held c.hold.ensures.went)) c.in-Err-remove_each.ensures.less

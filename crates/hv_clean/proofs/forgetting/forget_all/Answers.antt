@@ -26,33 +26,33 @@ hold-requires-clause-few g c = g.met.W.Actor.one
 
 pub forget_each-requires : goal.forget_each-requires
 forget_each-requires g c =
-    let asks = asked-so g.D.Shelf.told g.D.Shelf.faults g.W.Actor.between g.W.Actor.meanwhile g.met.W.Actor.goes_on (λ (seen : HouseSeen g.D) (r : Result _ _). AnswersSo (λ (book : List Entry) (ids : Vec LostId). ids.items ≡ lost_in (state_of book)) (book_of seen.trail) r)
+    let asks = asked-so g.D.Shelf.told g.D.Shelf.faults g.W.Actor.between g.W.Actor.meanwhile g.met.W.Actor.goes_on (λ (seen : HouseSeen g.row.D.Denot) (r : Result _ _). AnswersSo (λ (book : List Entry) (ids : Vec LostId). ids.items ≡ lost_in (state_of book)) (book_of seen.trail) r)
     (g.W.Actor.own c.args.actor.now) (g.W.Actor.own c.hold.new.self) (g.W.Actor.house c.args.actor.now) (g.W.Actor.house c.hold.new.self) c.in-Ok.ids c.hold.result c.in-Ok.is c.hold.ensures.held c.hold.ensures.went in
     record {
       keeps = c.hold.ensures.keeps;
       running = asks.running;
       lost = subst (AreLost (trail_in (g.W.Actor.house c.hold.new.self)))
-          (sym (c.deref.ensures.value
+          (sym (c.deref-in-Ok.ensures.value
           ∙ asked-says g.D.Shelf.told g.D.Shelf.faults g.W.Actor.between g.W.Actor.meanwhile g.met.W.Actor.goes_on (λ (book : List Entry) (ids : Vec LostId). ids.items ≡ lost_in (state_of book)) (g.W.Actor.own c.args.actor.now) (g.W.Actor.own c.hold.new.self) (g.W.Actor.house c.args.actor.now) (g.W.Actor.house c.hold.new.self) c.requires.running c.hold.result c.in-Ok.ids c.in-Ok.is c.hold.ensures.held))
           (all-lost-so (trail_in (g.W.Actor.house c.hold.new.self)));
     }
 
 pub returns-in-Ok-clause-forgets : goal.returns-in-Ok-clause-forgets
 returns-in-Ok-clause-forgets g c =
-    all-ok g.D.Shelf.told g.D.Shelf.faults g.W.Actor.between g.met.W.Actor.rows g.W.Actor.meanwhile (known (g.W.Actor.own c.args.actor.now) (g.W.Actor.house c.args.actor.now)) (known (g.W.Actor.own c.hold.new.self) (g.W.Actor.house c.hold.new.self)) (known (g.W.Actor.own c.forget_each.new.actor) (g.W.Actor.house c.forget_each.new.actor)) c.deref-2.result.now c.args.swept.now c.forget_each.new.swept
-    c.forget_each.result (asked-so g.D.Shelf.told g.D.Shelf.faults g.W.Actor.between g.W.Actor.meanwhile g.met.W.Actor.goes_on (λ (seen : HouseSeen g.D) (r : Result _ _). AnswersSo (λ (book : List Entry) (ids : Vec LostId). ids.items ≡ lost_in (state_of book)) (book_of seen.trail) r)
+    all-ok g.D.Shelf.told g.D.Shelf.faults g.W.Actor.between g.met.W.Actor.rows g.W.Actor.meanwhile (known (g.W.Actor.own c.args.actor.now) (g.W.Actor.house c.args.actor.now)) (known (g.W.Actor.own c.hold.new.self) (g.W.Actor.house c.hold.new.self)) (known (g.W.Actor.own c.forget_each.new.actor) (g.W.Actor.house c.forget_each.new.actor)) c.deref-in-Ok.result.now c.args.swept.now c.forget_each.new.swept
+    c.forget_each.result (asked-so g.D.Shelf.told g.D.Shelf.faults g.W.Actor.between g.W.Actor.meanwhile g.met.W.Actor.goes_on (λ (seen : HouseSeen g.row.D.Denot) (r : Result _ _). AnswersSo (λ (book : List Entry) (ids : Vec LostId). ids.items ≡ lost_in (state_of book)) (book_of seen.trail) r)
     (g.W.Actor.own c.args.actor.now) (g.W.Actor.own c.hold.new.self) (g.W.Actor.house c.args.actor.now) (g.W.Actor.house c.hold.new.self) c.in-Ok.ids c.hold.result c.in-Ok.is c.hold.ensures.held c.hold.ensures.went)
-    (c.deref-2.ensures.value ∙ asked-says g.D.Shelf.told g.D.Shelf.faults g.W.Actor.between g.W.Actor.meanwhile g.met.W.Actor.goes_on (λ (book : List Entry) (ids : Vec LostId). ids.items ≡ lost_in (state_of book)) (g.W.Actor.own c.args.actor.now) (g.W.Actor.own c.hold.new.self) (g.W.Actor.house c.args.actor.now) (g.W.Actor.house c.hold.new.self) c.requires.running c.hold.result c.in-Ok.ids c.in-Ok.is c.hold.ensures.held)
+    (c.deref-in-Ok.ensures.value ∙ asked-says g.D.Shelf.told g.D.Shelf.faults g.W.Actor.between g.W.Actor.meanwhile g.met.W.Actor.goes_on (λ (book : List Entry) (ids : Vec LostId). ids.items ≡ lost_in (state_of book)) (g.W.Actor.own c.args.actor.now) (g.W.Actor.own c.hold.new.self) (g.W.Actor.house c.args.actor.now) (g.W.Actor.house c.hold.new.self) c.requires.running c.hold.result c.in-Ok.ids c.in-Ok.is c.hold.ensures.held)
     (subst (λ (n : ℕ). IfOk c.forget_each.result (λ done. ForgetTables (among g.D.Shelf.told g.D.Shelf.faults g.W.Actor.between g.W.Actor.meanwhile) (known (g.W.Actor.own c.hold.new.self) (g.W.Actor.house c.hold.new.self)) (known (g.W.Actor.own c.forget_each.new.actor) (g.W.Actor.house c.forget_each.new.actor))
-    (numbers_from 1 n) c.deref-2.result.now c.args.swept.now c.forget_each.new.swept))
-    (c.last_table.ensures ∙ ap last_table (c.deref.ensures.value ∙ sym c.deref-2.ensures.value)) c.forget_each.ensures.forgets)
+    (numbers_from 1 n) c.deref-in-Ok.result.now c.args.swept.now c.forget_each.new.swept))
+    (c.last_table.ensures ∙ ap last_table (c.deref.ensures.value ∙ sym c.deref-in-Ok.ensures.value)) c.forget_each.ensures.forgets)
 
 pub returns-in-Ok-clause-less : goal.returns-in-Ok-clause-less
 returns-in-Ok-clause-less g c =
-    all-up g.D.Shelf.told g.D.Shelf.faults g.W.Actor.between g.met.W.Actor.rows g.W.Actor.meanwhile (known (g.W.Actor.own c.args.actor.now) (g.W.Actor.house c.args.actor.now)) (known (g.W.Actor.own c.hold.new.self) (g.W.Actor.house c.hold.new.self)) (known (g.W.Actor.own c.forget_each.new.actor) (g.W.Actor.house c.forget_each.new.actor)) c.deref-2.result.now c.args.swept.now c.forget_each.result (asked-so g.D.Shelf.told g.D.Shelf.faults g.W.Actor.between g.W.Actor.meanwhile g.met.W.Actor.goes_on (λ (seen : HouseSeen g.D) (r : Result _ _). AnswersSo (λ (book : List Entry) (ids : Vec LostId). ids.items ≡ lost_in (state_of book)) (book_of seen.trail) r)
-    (g.W.Actor.own c.args.actor.now) (g.W.Actor.own c.hold.new.self) (g.W.Actor.house c.args.actor.now) (g.W.Actor.house c.hold.new.self) c.in-Ok.ids c.hold.result c.in-Ok.is c.hold.ensures.held c.hold.ensures.went) (c.deref-2.ensures.value ∙ asked-says g.D.Shelf.told g.D.Shelf.faults g.W.Actor.between g.W.Actor.meanwhile g.met.W.Actor.goes_on (λ (book : List Entry) (ids : Vec LostId). ids.items ≡ lost_in (state_of book)) (g.W.Actor.own c.args.actor.now) (g.W.Actor.own c.hold.new.self) (g.W.Actor.house c.args.actor.now) (g.W.Actor.house c.hold.new.self) c.requires.running c.hold.result c.in-Ok.ids c.in-Ok.is c.hold.ensures.held) (subst (λ (n : ℕ). IfErr c.forget_each.result (StopsBehind (among g.D.Shelf.told g.D.Shelf.faults g.W.Actor.between g.W.Actor.meanwhile) (TablesFront (among g.D.Shelf.told g.D.Shelf.faults g.W.Actor.between g.W.Actor.meanwhile) (numbers_from 1 n) c.deref-2.result.now c.args.swept.now)
+    all-up g.D.Shelf.told g.D.Shelf.faults g.W.Actor.between g.met.W.Actor.rows g.W.Actor.meanwhile (known (g.W.Actor.own c.args.actor.now) (g.W.Actor.house c.args.actor.now)) (known (g.W.Actor.own c.hold.new.self) (g.W.Actor.house c.hold.new.self)) (known (g.W.Actor.own c.forget_each.new.actor) (g.W.Actor.house c.forget_each.new.actor)) c.deref-in-Ok.result.now c.args.swept.now c.forget_each.result (asked-so g.D.Shelf.told g.D.Shelf.faults g.W.Actor.between g.W.Actor.meanwhile g.met.W.Actor.goes_on (λ (seen : HouseSeen g.row.D.Denot) (r : Result _ _). AnswersSo (λ (book : List Entry) (ids : Vec LostId). ids.items ≡ lost_in (state_of book)) (book_of seen.trail) r)
+    (g.W.Actor.own c.args.actor.now) (g.W.Actor.own c.hold.new.self) (g.W.Actor.house c.args.actor.now) (g.W.Actor.house c.hold.new.self) c.in-Ok.ids c.hold.result c.in-Ok.is c.hold.ensures.held c.hold.ensures.went) (c.deref-in-Ok.ensures.value ∙ asked-says g.D.Shelf.told g.D.Shelf.faults g.W.Actor.between g.W.Actor.meanwhile g.met.W.Actor.goes_on (λ (book : List Entry) (ids : Vec LostId). ids.items ≡ lost_in (state_of book)) (g.W.Actor.own c.args.actor.now) (g.W.Actor.own c.hold.new.self) (g.W.Actor.house c.args.actor.now) (g.W.Actor.house c.hold.new.self) c.requires.running c.hold.result c.in-Ok.ids c.in-Ok.is c.hold.ensures.held) (subst (λ (n : ℕ). IfErr c.forget_each.result (StopsBehind (among g.D.Shelf.told g.D.Shelf.faults g.W.Actor.between g.W.Actor.meanwhile) (TablesFront (among g.D.Shelf.told g.D.Shelf.faults g.W.Actor.between g.W.Actor.meanwhile) (numbers_from 1 n) c.deref-in-Ok.result.now c.args.swept.now)
     (known (g.W.Actor.own c.hold.new.self) (g.W.Actor.house c.hold.new.self)) (known (g.W.Actor.own c.forget_each.new.actor) (g.W.Actor.house c.forget_each.new.actor))))
-    (c.last_table.ensures ∙ ap last_table (c.deref.ensures.value ∙ sym c.deref-2.ensures.value)) c.forget_each.ensures.less)
+    (c.last_table.ensures ∙ ap last_table (c.deref.ensures.value ∙ sym c.deref-in-Ok.ensures.value)) c.forget_each.ensures.less)
 
 pub returns-in-Err-clause-less : goal.returns-in-Err-clause-less
 returns-in-Err-clause-less g c =

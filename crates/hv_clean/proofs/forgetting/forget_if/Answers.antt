@@ -1,5 +1,5 @@
 use Rattle.hv_actor.specs.Acting.{known}
-use Rattle.std.proofs.Common.{sym, ◌∙◌}
+use Rattle.std.proofs.Common.{[], ◌∷◌, sym, ◌∙◌}
 use Rattle.hv_clean.specs.Passing.{ids_of}
 use Rattle.hv_clean.proofs.Moved.{none-ok, one-ok}
 use Rattle.hv_clean.proofs.Forgets.{one-of-table, none-of-table}

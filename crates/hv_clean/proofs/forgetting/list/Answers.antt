@@ -11,14 +11,14 @@ hold-requires-clause-few g c = g.met.W.Actor.one
 
 pub returns-in-Ok-clause-sweeps : goal.returns-in-Ok-clause-sweeps
 returns-in-Ok-clause-sweeps g c =
-    read-swept g.D.Shelf.told g.D.Shelf.faults g.W.Actor.between g.W.Actor.meanwhile g.met.W.Actor.goes_on (λ (seen : HouseSeen g.D) (r : Result _ _). PlacesSo g.D.Shelf.told seen c.args.table r)
+    read-swept g.D.Shelf.told g.D.Shelf.faults g.W.Actor.between g.W.Actor.meanwhile g.met.W.Actor.goes_on (λ (seen : HouseSeen g.row.D.Denot) (r : Result _ _). PlacesSo g.D.Shelf.told seen c.args.table r)
     (g.W.Actor.own c.args.actor.now) (g.W.Actor.own c.hold.new.self) (g.W.Actor.house c.args.actor.now) (g.W.Actor.house c.hold.new.self) c.requires.running c.args.swept.now c.in-Ok.places c.hold.result c.in-Ok.is c.hold.ensures.held c.hold.ensures.went
 
 pub returns-in-Err-clause-sweeps : goal.returns-in-Err-clause-sweeps
 returns-in-Err-clause-sweeps g c =
     list-sweeps g.D.Shelf.told g.D.Shelf.faults g.W.Actor.between g.met.W.Actor.rows g.W.Actor.meanwhile g.met.W.Actor.goes_on c.args.table (g.W.Actor.own c.args.actor.now) (g.W.Actor.own c.hold.new.self) (g.W.Actor.house c.args.actor.now) (g.W.Actor.house c.hold.new.self) c.requires.running c.args.swept.now c.counted.result
     (refusal_of c.in-Err.why) c.refusal_of-why.result c.not_listed.result c.refusal_of-why.ensures c.counted.ensures c.not_listed.ensures
-    (behind-err g.D.Shelf.told g.D.Shelf.faults g.W.Actor.between g.W.Actor.meanwhile g.met.W.Actor.goes_on (λ (seen : HouseSeen g.D) (r : Result _ _). PlacesSo g.D.Shelf.told seen c.args.table r)
+    (behind-err g.D.Shelf.told g.D.Shelf.faults g.W.Actor.between g.W.Actor.meanwhile g.met.W.Actor.goes_on (λ (seen : HouseSeen g.row.D.Denot) (r : Result _ _). PlacesSo g.D.Shelf.told seen c.args.table r)
     (g.W.Actor.own c.args.actor.now) (g.W.Actor.own c.hold.new.self) (g.W.Actor.house c.args.actor.now) (g.W.Actor.house c.hold.new.self) c.requires.running c.args.swept.now (Read None) read-quietly (λ seen entries so. absurd so.others) c.hold.result c.in-Err.why c.in-Err.is c.hold.ensures.held c.hold.ensures.went)
 
 pub returns-in-Err-clause-listed : goal.returns-in-Err-clause-listed
@@ -30,5 +30,5 @@ pub returns-in-Err-clause-less : goal.returns-in-Err-clause-less
 returns-in-Err-clause-less g c =
     list-less g.D.Shelf.told g.D.Shelf.faults g.W.Actor.between g.met.W.Actor.rows g.W.Actor.meanwhile g.met.W.Actor.goes_on c.args.table (g.W.Actor.own c.args.actor.now) (g.W.Actor.own c.hold.new.self) (g.W.Actor.house c.args.actor.now) (g.W.Actor.house c.hold.new.self) c.requires.running c.args.swept.now
     (refusal_of c.in-Err.why) c.refusal_of-why.result c.not_listed.result c.refusal_of-why.ensures c.not_listed.ensures
-    (behind-err g.D.Shelf.told g.D.Shelf.faults g.W.Actor.between g.W.Actor.meanwhile g.met.W.Actor.goes_on (λ (seen : HouseSeen g.D) (r : Result _ _). PlacesSo g.D.Shelf.told seen c.args.table r)
+    (behind-err g.D.Shelf.told g.D.Shelf.faults g.W.Actor.between g.W.Actor.meanwhile g.met.W.Actor.goes_on (λ (seen : HouseSeen g.row.D.Denot) (r : Result _ _). PlacesSo g.D.Shelf.told seen c.args.table r)
     (g.W.Actor.own c.args.actor.now) (g.W.Actor.own c.hold.new.self) (g.W.Actor.house c.args.actor.now) (g.W.Actor.house c.hold.new.self) c.requires.running c.args.swept.now (Read None) read-quietly (λ seen entries so. absurd so.others) c.hold.result c.in-Err.why c.in-Err.is c.hold.ensures.held c.hold.ensures.went)

@@ -25,7 +25,7 @@ hold-requires-clause-can g c = λ house kept reached.
 
 pub returns-in-Ok-clause-sweeps : goal.returns-in-Ok-clause-sweeps
 returns-in-Ok-clause-sweeps g c =
-    went-swept g.D.Shelf.told g.D.Shelf.faults g.W.Actor.between g.W.Actor.meanwhile g.met.W.Actor.goes_on (λ (seen : HouseSeen g.D) (r : Result _ _). OwnGoesSo (state_at seen.trail) c.args.id.table r)
+    went-swept g.D.Shelf.told g.D.Shelf.faults g.W.Actor.between g.W.Actor.meanwhile g.met.W.Actor.goes_on (λ (seen : HouseSeen g.row.D.Denot) (r : Result _ _). OwnGoesSo (state_at seen.trail) c.args.id.table r)
     (g.W.Actor.own c.args.actor.now) (g.W.Actor.own c.hold.new.self) (g.W.Actor.house c.args.actor.now) (g.W.Actor.house c.hold.new.self) c.requires.running c.args.swept.now c.args.dir tt c.hold.result c.in-Ok.is c.hold.ensures.held c.hold.ensures.went
 
 pub returns-in-Err-clause-sweeps : goal.returns-in-Err-clause-sweeps
@@ -33,7 +33,7 @@ returns-in-Err-clause-sweeps g c =
     refused-sweeps g.D.Shelf.told g.D.Shelf.faults g.W.Actor.between g.W.Actor.meanwhile g.met.W.Actor.goes_on (known (g.W.Actor.own c.args.actor.now) (g.W.Actor.house c.args.actor.now)) (known (g.W.Actor.own c.hold.new.self) (g.W.Actor.house c.hold.new.self))
     c.args.swept.now c.counted.result (refusal_of c.in-Err.why) c.refusal_of-why.result c.unless_stopped.result c.refusal_of-why.ensures c.counted.ensures
     c.unless_stopped.ensures
-    (behind-err g.D.Shelf.told g.D.Shelf.faults g.W.Actor.between g.W.Actor.meanwhile g.met.W.Actor.goes_on (λ (seen : HouseSeen g.D) (r : Result _ _). OwnGoesSo (state_at seen.trail) c.args.id.table r)
+    (behind-err g.D.Shelf.told g.D.Shelf.faults g.W.Actor.between g.W.Actor.meanwhile g.met.W.Actor.goes_on (λ (seen : HouseSeen g.row.D.Denot) (r : Result _ _). OwnGoesSo (state_at seen.trail) c.args.id.table r)
     (g.W.Actor.own c.args.actor.now) (g.W.Actor.own c.hold.new.self) (g.W.Actor.house c.args.actor.now) (g.W.Actor.house c.hold.new.self) c.requires.running c.args.swept.now (Remove None c.args.dir) (remove-quietly c.args.dir) (λ seen entries so. absurd so.others) c.hold.result c.in-Err.why c.in-Err.is
     c.hold.ensures.held c.hold.ensures.went)
 
@@ -42,6 +42,6 @@ returns-in-Err-clause-less g c =
     refused-less g.D.Shelf.told g.D.Shelf.faults g.W.Actor.between g.W.Actor.meanwhile g.met.W.Actor.goes_on (known (g.W.Actor.own c.args.actor.now) (g.W.Actor.house c.args.actor.now)) (known (g.W.Actor.own c.hold.new.self) (g.W.Actor.house c.hold.new.self))
     c.args.swept.now c.args.swept.now (refusal_of c.in-Err.why) c.refusal_of-why.result c.unless_stopped.result c.refusal_of-why.ensures
     c.unless_stopped.ensures
-    (behind-err g.D.Shelf.told g.D.Shelf.faults g.W.Actor.between g.W.Actor.meanwhile g.met.W.Actor.goes_on (λ (seen : HouseSeen g.D) (r : Result _ _). OwnGoesSo (state_at seen.trail) c.args.id.table r)
+    (behind-err g.D.Shelf.told g.D.Shelf.faults g.W.Actor.between g.W.Actor.meanwhile g.met.W.Actor.goes_on (λ (seen : HouseSeen g.row.D.Denot) (r : Result _ _). OwnGoesSo (state_at seen.trail) c.args.id.table r)
     (g.W.Actor.own c.args.actor.now) (g.W.Actor.own c.hold.new.self) (g.W.Actor.house c.args.actor.now) (g.W.Actor.house c.hold.new.self) c.requires.running c.args.swept.now (Remove None c.args.dir) (remove-quietly c.args.dir) (λ seen entries so. absurd so.others) c.hold.result c.in-Err.why c.in-Err.is
     c.hold.ensures.held c.hold.ensures.went)

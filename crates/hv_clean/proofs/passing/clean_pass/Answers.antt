@@ -22,7 +22,7 @@ hold-requires-clause-few g c = g.met.W.Actor.one
 
 pub pass_over-requires : goal.pass_over-requires
 pass_over-requires g c =
-    let asks = asked-so g.D.Shelf.told g.D.Shelf.faults g.W.Actor.between g.W.Actor.meanwhile g.met.W.Actor.goes_on (λ (seen : HouseSeen g.D) (r : Result _ _). AnswersSo (λ (book : List Entry) (jobs : Vec JobId). jobs.items ≡ ready_in (state_of book)) (book_of seen.trail) r)
+    let asks = asked-so g.D.Shelf.told g.D.Shelf.faults g.W.Actor.between g.W.Actor.meanwhile g.met.W.Actor.goes_on (λ (seen : HouseSeen g.row.D.Denot) (r : Result _ _). AnswersSo (λ (book : List Entry) (jobs : Vec JobId). jobs.items ≡ ready_in (state_of book)) (book_of seen.trail) r)
     (g.W.Actor.own c.args.actor.now) (g.W.Actor.own c.hold.new.self) (g.W.Actor.house c.args.actor.now) (g.W.Actor.house c.hold.new.self) c.in-Ok.jobs c.hold.result c.in-Ok.is c.hold.ensures.held c.hold.ensures.went in
     record {
       keeps = c.hold.ensures.keeps;
@@ -35,24 +35,24 @@ pass_over-requires g c =
 
 pub returns-in-Ok-clause-passes : goal.returns-in-Ok-clause-passes
 returns-in-Ok-clause-passes g c =
-    pass-ok g.D.Shelf.told g.D.Shelf.faults g.W.Actor.between g.met.W.Actor.rows g.W.Actor.meanwhile (known (g.W.Actor.own c.args.actor.now) (g.W.Actor.house c.args.actor.now)) (known (g.W.Actor.own c.hold.new.self) (g.W.Actor.house c.hold.new.self)) (known (g.W.Actor.own c.pass_over.new.actor) (g.W.Actor.house c.pass_over.new.actor)) c.deref.result.now c.pass_over.result (asked-so g.D.Shelf.told g.D.Shelf.faults g.W.Actor.between g.W.Actor.meanwhile g.met.W.Actor.goes_on (λ (seen : HouseSeen g.D) (r : Result _ _). AnswersSo (λ (book : List Entry) (jobs : Vec JobId). jobs.items ≡ ready_in (state_of book)) (book_of seen.trail) r)
+    pass-ok g.D.Shelf.told g.D.Shelf.faults g.W.Actor.between g.met.W.Actor.rows g.W.Actor.meanwhile (known (g.W.Actor.own c.args.actor.now) (g.W.Actor.house c.args.actor.now)) (known (g.W.Actor.own c.hold.new.self) (g.W.Actor.house c.hold.new.self)) (known (g.W.Actor.own c.pass_over.new.actor) (g.W.Actor.house c.pass_over.new.actor)) c.deref.result.now c.pass_over.result (asked-so g.D.Shelf.told g.D.Shelf.faults g.W.Actor.between g.W.Actor.meanwhile g.met.W.Actor.goes_on (λ (seen : HouseSeen g.row.D.Denot) (r : Result _ _). AnswersSo (λ (book : List Entry) (jobs : Vec JobId). jobs.items ≡ ready_in (state_of book)) (book_of seen.trail) r)
     (g.W.Actor.own c.args.actor.now) (g.W.Actor.own c.hold.new.self) (g.W.Actor.house c.args.actor.now) (g.W.Actor.house c.hold.new.self) c.in-Ok.jobs c.hold.result c.in-Ok.is c.hold.ensures.held c.hold.ensures.went)
     (c.deref.ensures.value ∙ asked-says g.D.Shelf.told g.D.Shelf.faults g.W.Actor.between g.W.Actor.meanwhile g.met.W.Actor.goes_on (λ (book : List Entry) (jobs : Vec JobId). jobs.items ≡ ready_in (state_of book)) (g.W.Actor.own c.args.actor.now) (g.W.Actor.own c.hold.new.self) (g.W.Actor.house c.args.actor.now) (g.W.Actor.house c.hold.new.self) c.requires.running c.hold.result c.in-Ok.jobs c.in-Ok.is c.hold.ensures.held)
     c.pass_over.ensures.passes
 
 pub returns-in-Ok-clause-less : goal.returns-in-Ok-clause-less
 returns-in-Ok-clause-less g c =
-    pass-up g.D.Shelf.told g.D.Shelf.faults g.W.Actor.between g.met.W.Actor.rows g.W.Actor.meanwhile (known (g.W.Actor.own c.args.actor.now) (g.W.Actor.house c.args.actor.now)) (known (g.W.Actor.own c.hold.new.self) (g.W.Actor.house c.hold.new.self)) (known (g.W.Actor.own c.pass_over.new.actor) (g.W.Actor.house c.pass_over.new.actor)) c.deref.result.now c.pass_over.result (asked-so g.D.Shelf.told g.D.Shelf.faults g.W.Actor.between g.W.Actor.meanwhile g.met.W.Actor.goes_on (λ (seen : HouseSeen g.D) (r : Result _ _). AnswersSo (λ (book : List Entry) (jobs : Vec JobId). jobs.items ≡ ready_in (state_of book)) (book_of seen.trail) r)
+    pass-up g.D.Shelf.told g.D.Shelf.faults g.W.Actor.between g.met.W.Actor.rows g.W.Actor.meanwhile (known (g.W.Actor.own c.args.actor.now) (g.W.Actor.house c.args.actor.now)) (known (g.W.Actor.own c.hold.new.self) (g.W.Actor.house c.hold.new.self)) (known (g.W.Actor.own c.pass_over.new.actor) (g.W.Actor.house c.pass_over.new.actor)) c.deref.result.now c.pass_over.result (asked-so g.D.Shelf.told g.D.Shelf.faults g.W.Actor.between g.W.Actor.meanwhile g.met.W.Actor.goes_on (λ (seen : HouseSeen g.row.D.Denot) (r : Result _ _). AnswersSo (λ (book : List Entry) (jobs : Vec JobId). jobs.items ≡ ready_in (state_of book)) (book_of seen.trail) r)
     (g.W.Actor.own c.args.actor.now) (g.W.Actor.own c.hold.new.self) (g.W.Actor.house c.args.actor.now) (g.W.Actor.house c.hold.new.self) c.in-Ok.jobs c.hold.result c.in-Ok.is c.hold.ensures.held c.hold.ensures.went) (c.deref.ensures.value ∙ asked-says g.D.Shelf.told g.D.Shelf.faults g.W.Actor.between g.W.Actor.meanwhile g.met.W.Actor.goes_on (λ (book : List Entry) (jobs : Vec JobId). jobs.items ≡ ready_in (state_of book)) (g.W.Actor.own c.args.actor.now) (g.W.Actor.own c.hold.new.self) (g.W.Actor.house c.args.actor.now) (g.W.Actor.house c.hold.new.self) c.requires.running c.hold.result c.in-Ok.jobs c.in-Ok.is c.hold.ensures.held) c.pass_over.ensures.less
 
 pub returns-in-Ok-clause-later : goal.returns-in-Ok-clause-later
 returns-in-Ok-clause-later g c =
     pass-later g.D.Shelf.told g.D.Shelf.faults g.W.Actor.between g.met.W.Actor.rows g.W.Actor.meanwhile (known (g.W.Actor.own c.args.actor.now) (g.W.Actor.house c.args.actor.now)) (known (g.W.Actor.own c.pass_over.new.actor) (g.W.Actor.house c.pass_over.new.actor)) c.pass_over.result
-    (pass-ok g.D.Shelf.told g.D.Shelf.faults g.W.Actor.between g.met.W.Actor.rows g.W.Actor.meanwhile (known (g.W.Actor.own c.args.actor.now) (g.W.Actor.house c.args.actor.now)) (known (g.W.Actor.own c.hold.new.self) (g.W.Actor.house c.hold.new.self)) (known (g.W.Actor.own c.pass_over.new.actor) (g.W.Actor.house c.pass_over.new.actor)) c.deref.result.now c.pass_over.result (asked-so g.D.Shelf.told g.D.Shelf.faults g.W.Actor.between g.W.Actor.meanwhile g.met.W.Actor.goes_on (λ (seen : HouseSeen g.D) (r : Result _ _). AnswersSo (λ (book : List Entry) (jobs : Vec JobId). jobs.items ≡ ready_in (state_of book)) (book_of seen.trail) r)
+    (pass-ok g.D.Shelf.told g.D.Shelf.faults g.W.Actor.between g.met.W.Actor.rows g.W.Actor.meanwhile (known (g.W.Actor.own c.args.actor.now) (g.W.Actor.house c.args.actor.now)) (known (g.W.Actor.own c.hold.new.self) (g.W.Actor.house c.hold.new.self)) (known (g.W.Actor.own c.pass_over.new.actor) (g.W.Actor.house c.pass_over.new.actor)) c.deref.result.now c.pass_over.result (asked-so g.D.Shelf.told g.D.Shelf.faults g.W.Actor.between g.W.Actor.meanwhile g.met.W.Actor.goes_on (λ (seen : HouseSeen g.row.D.Denot) (r : Result _ _). AnswersSo (λ (book : List Entry) (jobs : Vec JobId). jobs.items ≡ ready_in (state_of book)) (book_of seen.trail) r)
     (g.W.Actor.own c.args.actor.now) (g.W.Actor.own c.hold.new.self) (g.W.Actor.house c.args.actor.now) (g.W.Actor.house c.hold.new.self) c.in-Ok.jobs c.hold.result c.in-Ok.is c.hold.ensures.held c.hold.ensures.went)
     (c.deref.ensures.value ∙ asked-says g.D.Shelf.told g.D.Shelf.faults g.W.Actor.between g.W.Actor.meanwhile g.met.W.Actor.goes_on (λ (book : List Entry) (jobs : Vec JobId). jobs.items ≡ ready_in (state_of book)) (g.W.Actor.own c.args.actor.now) (g.W.Actor.own c.hold.new.self) (g.W.Actor.house c.args.actor.now) (g.W.Actor.house c.hold.new.self) c.requires.running c.hold.result c.in-Ok.jobs c.in-Ok.is c.hold.ensures.held)
     c.pass_over.ensures.passes)
-    (pass-up g.D.Shelf.told g.D.Shelf.faults g.W.Actor.between g.met.W.Actor.rows g.W.Actor.meanwhile (known (g.W.Actor.own c.args.actor.now) (g.W.Actor.house c.args.actor.now)) (known (g.W.Actor.own c.hold.new.self) (g.W.Actor.house c.hold.new.self)) (known (g.W.Actor.own c.pass_over.new.actor) (g.W.Actor.house c.pass_over.new.actor)) c.deref.result.now c.pass_over.result (asked-so g.D.Shelf.told g.D.Shelf.faults g.W.Actor.between g.W.Actor.meanwhile g.met.W.Actor.goes_on (λ (seen : HouseSeen g.D) (r : Result _ _). AnswersSo (λ (book : List Entry) (jobs : Vec JobId). jobs.items ≡ ready_in (state_of book)) (book_of seen.trail) r)
+    (pass-up g.D.Shelf.told g.D.Shelf.faults g.W.Actor.between g.met.W.Actor.rows g.W.Actor.meanwhile (known (g.W.Actor.own c.args.actor.now) (g.W.Actor.house c.args.actor.now)) (known (g.W.Actor.own c.hold.new.self) (g.W.Actor.house c.hold.new.self)) (known (g.W.Actor.own c.pass_over.new.actor) (g.W.Actor.house c.pass_over.new.actor)) c.deref.result.now c.pass_over.result (asked-so g.D.Shelf.told g.D.Shelf.faults g.W.Actor.between g.W.Actor.meanwhile g.met.W.Actor.goes_on (λ (seen : HouseSeen g.row.D.Denot) (r : Result _ _). AnswersSo (λ (book : List Entry) (jobs : Vec JobId). jobs.items ≡ ready_in (state_of book)) (book_of seen.trail) r)
     (g.W.Actor.own c.args.actor.now) (g.W.Actor.own c.hold.new.self) (g.W.Actor.house c.args.actor.now) (g.W.Actor.house c.hold.new.self) c.in-Ok.jobs c.hold.result c.in-Ok.is c.hold.ensures.held c.hold.ensures.went) (c.deref.ensures.value ∙ asked-says g.D.Shelf.told g.D.Shelf.faults g.W.Actor.between g.W.Actor.meanwhile g.met.W.Actor.goes_on (λ (book : List Entry) (jobs : Vec JobId). jobs.items ≡ ready_in (state_of book)) (g.W.Actor.own c.args.actor.now) (g.W.Actor.own c.hold.new.self) (g.W.Actor.house c.args.actor.now) (g.W.Actor.house c.hold.new.self) c.requires.running c.hold.result c.in-Ok.jobs c.in-Ok.is c.hold.ensures.held) c.pass_over.ensures.less)
 
 pub returns-in-Ok-clause-running : goal.returns-in-Ok-clause-running

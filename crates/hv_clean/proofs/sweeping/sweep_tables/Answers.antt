@@ -17,7 +17,7 @@ sweep_table-requires g c = record {
   keeps = c.loop-i.invariant.0;
   running = c.loop-i.invariant.1.running;
   dropped = λ dead. dead-dropped (trail_in (g.W.Actor.house c.loop-i.actor)) c.args.live.now c.loop-i.i false c.loop-i.invariant.2
-      (omega (arith, c.loop-i-test.true, c.len-i-end.ensures)) dead;
+      (omega (arith, c.loop-i-test.true)) dead;
 }
 
 pub returns-in-Err-clause-less : goal.returns-in-Err-clause-less
