@@ -141,7 +141,7 @@ module _ {D : Type 0} (told : D → Option Store) (faults : D → ℕ) (between 
   abbrev WorksOf : {T : Type 0} → Moment (ToldHouse D) → Moment (ToldHouse D) → Result T Stop → Type 0
   WorksOf a b result = Works (among told faults between meanwhile) job a b result
 
-  pub works-none : AreRows between → (m : Moment (ToldHouse D)) → IsOpenHouse m.house → WorksOf m m (Ok tt)
+  pub works-none : AreRows between → (m : Moment (ToldHouse D)) → IsOpenHouse m.house → WorksOf {T = Unit {0}} m m (Ok tt)
   works-none rows m running = works-ok told faults between meanwhile job m m tt [] (adds-none faults between rows m) tt tt running
 
   -- the same, of another answer

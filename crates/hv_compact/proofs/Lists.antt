@@ -1,5 +1,5 @@
 -- What a listing says stays true while the job works; and once its buckets are staged, all that it is to stage is.
-use Rattle.std.proofs.Common.{◌≡◌, ◌⊎◌, inl, inr, ◌≤◌, ◌<◌, ◌+◌, ℕ, Bool, true, false, true≢false, Option, Some, None, List, [], ◌∷◌, map, length, Result, Ok, Err, refl, sym, ap, ◌∙◌, subst, arith}
+use Rattle.std.proofs.Common.{◌≡◌, ◌⊎◌, inl, inr, ◌≤◌, ◌<◌, ◌+◌, ℕ, suc, Bool, true, false, true≢false, Option, Some, None, List, [], ◌∷◌, map, length, Result, Ok, Err, refl, sym, ap, ◌∙◌, subst, arith}
 use Rattle.std.specs.Prelude.{IfOk, IsSomeAnd, ◌==◌, ◌||◌, not, nat_lt}
 use Rattle.std.proofs.lemmas.Bool.{eqb-true, eq-eqb}
 use Rattle.std.proofs.lemmas.Bool.Decides.{nat_tests}
@@ -87,7 +87,9 @@ if-later (r ∷ recs) P Q step holds = step holds
 
 pub empty-so : (recs : List Rec) (b : Bool) → b ≡ (length recs == 0) → b ≡ true → recs ≡ []
 empty-so [] b is so = refl
-empty-so (r ∷ recs) b is so = absurd (true≢false (sym so ∙ is))
+empty-so (r ∷ recs) b is so =
+    let none : suc (length recs) ≡ 0 = eqb-true (suc (length recs)) 0 (sym is ∙ so) in
+    absurd (omega (arith, none))
 
 pub empty-not : (recs : List Rec) (b : Bool) → b ≡ (length recs == 0) → b ≡ false → recs ≡ [] → ⊥
 empty-not [] b is so none = true≢false (sym is ∙ so)
@@ -367,6 +369,7 @@ major-so trail task recs_of bucket listing recs (Err why) same staged none rows 
 
 pub all-by-some : (trail : List TrailItem) (task : Task) (listing : Listing) (some : Bool) → task.kind ≡ kind.Major → some ≡ true
     → HasWrittenBase trail task listing some → HasStagedAll trail task.job
+unfolding lists-later
 all-by-some trail task listing some is so written = λ now front book.
     base-staged now task listing (lists-later trail now task listing front written.lists) is book
     (base-later trail now task written.lists.recs_of (buckets_of listing.inserts.items) listing true front
@@ -374,6 +377,7 @@ all-by-some trail task listing some is so written = λ now front book.
 
 pub all-by-bare : (before mid : List TrailItem) (task : Task) (listing : Listing) (some : Bool) → task.kind ≡ kind.Major → some ≡ false
     → IsFront before mid → HasWrittenBase before task listing some → IsStagedIn mid task.job (base_of task) 0 → HasStagedAll mid task.job
+unfolding lists-later
 all-by-bare before mid task listing some is so front written staged = λ now later book.
     let whole = front-more before mid now front later in
     bare-staged now task listing (lists-later before now task listing whole written.lists) is book
@@ -384,6 +388,7 @@ all-by-bare before mid task listing some is so front written staged = λ now lat
 pub written-base : (before now : List TrailItem) (task : Task) (listing : Listing) (some : Bool) (files : List DirFile) (buckets : ℕ)
     → IsFront before now → files ≡ listing.inserts.items → buckets ≡ buckets_of files → (lists : ListsJob before task listing)
     → HasBaseStaged now task lists.recs_of buckets listing some → HasWrittenBase now task listing some
+unfolding lists-later
 written-base before now task listing some files buckets front are count lists base = record {
   lists = lists-later before now task listing front lists;
   staged =
@@ -395,6 +400,7 @@ pub all-by-kinds : (before mid then_ : List TrailItem) (task : Task) (listing : 
     → deletes ≡ listing.deletes.items → rows ≡ buckets_of inserts → gone ≡ buckets_of deletes → (lists : ListsJob before task listing)
     → HasKindStaged mid task lists.recs_of false rows listing → HasKindStaged then_ task lists.recs_of true gone listing
     → HasStagedAll then_ task.job
+unfolding lists-later
 all-by-kinds before mid then_ task listing rows gone inserts deletes is front more ins del count counted lists first next = λ now later book.
     minor-staged now task listing (lists-later before now task listing (front-more before then_ now (front-more before mid then_ front more) later) lists)
     is book

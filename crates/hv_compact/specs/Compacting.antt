@@ -1,6 +1,6 @@
 -- What a compaction adds by its own acts, and how it ends.
 -- Source: Hive Transactions, compactor (worker).
-use Rattle.std.specs.Prelude.{◌≡◌, ◌×◌, Option, Some, None, List, [], ◌∷◌, ◌++◌, Result, IfOk, IfErr}
+use Rattle.std.specs.Prelude.{◌≡◌, Option, Some, None, List, [], ◌∷◌, ◌++◌, Result, IfOk, IfErr}
 use Rattle.std.specs.List.{AllByRecursion}
 use Rattle.hv_base.specs.declared.ids.JobId.{JobId}
 use Rattle.hv_base.specs.declared.ids.WriteId.{WriteId}

@@ -1,5 +1,5 @@
 -- How a job that was taken up ends.
-use Rattle.std.specs.Prelude.{IsSome, ◌≡◌, ◌×◌, ◌⊎◌, Option, Some, None, Result, Ok, Err, List}
+use Rattle.std.specs.Prelude.{IsSome, ◌≡◌, ◌⊎◌, Option, Some, None, Result, Ok, Err, List}
 use Rattle.std.specs.List.{AllByRecursion}
 use Rattle.hv_base.specs.declared.ids.JobId.{JobId}
 use Rattle.hv_base.specs.declared.ids.WriteId.{WriteId}

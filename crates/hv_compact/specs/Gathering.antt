@@ -1,6 +1,6 @@
 -- Which of the listed files of a job are taken in a bucket, and what is made of them.
 -- Source: Hive Transactions, compactor.
-use Rattle.std.specs.Prelude.{if◌then◌else◌, ◌≡◌, ◌×◌, ℕ, ◌==◌, ◌&&◌, nat_lt, Bool, true, false, Some, None, List, [], ◌∷◌, ◌+◌, filter, map}
+use Rattle.std.specs.Prelude.{if◌then◌else◌, ◌≡◌, ℕ, ◌==◌, ◌&&◌, nat_lt, Bool, true, false, Some, None, List, [], ◌∷◌, ◌+◌, filter, map}
 use Rattle.hv_base.specs.declared.ids.JobId.{JobId}
 use Rattle.hv_shelf.specs.declared.place.Place.{Place}
 use Rattle.hv_dirs.specs.declared.names.DirName.{DirName}

@@ -1,6 +1,6 @@
 -- What an initiator asks for: of each partition of the book at its first hold, what is due when its turn comes.
 -- Source: Hive Transactions, compactor (initiator).
-use Rattle.std.specs.Prelude.{◌≡◌, ◌×◌, ℕ, Option, Some, None, List, [], ◌∷◌, ◌++◌, length, take, Result, IfOk, IfErr}
+use Rattle.std.specs.Prelude.{◌≡◌, ℕ, Option, Some, None, List, [], ◌∷◌, ◌++◌, length, take, Result, IfOk, IfErr}
 use Rattle.hv_history.specs.declared.entry.Entry.{Entry}
 use Rattle.hv_history.specs.declared.entry.JobKind.{JobKind}
 use Rattle.hv_history.specs.State.{state_of}

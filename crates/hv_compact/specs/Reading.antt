@@ -1,5 +1,5 @@
 -- What is read of a job's files.
-use Rattle.std.specs.Prelude.{◌≡◌, ◌×◌, ℕ, Bool, List, [], ◌∷◌, ◌++◌}
+use Rattle.std.specs.Prelude.{◌≡◌, ℕ, Bool, List, [], ◌∷◌, ◌++◌}
 use Rattle.std.specs.List.{AllByRecursion}
 use Rattle.std.specs.Global.{Vec}
 use Rattle.hv_base.specs.declared.ids.JobId.{JobId}
