@@ -37,7 +37,7 @@ pub whenever-later : (before now : List TrailItem) (job : JobId) (P : State → 
     → Whenever now job P
 whenever-later before now job P front when = λ then_ more book j work. when then_ (front-more before now then_ front more) book j work
 
-pub lists-later : (before now : List TrailItem) (task : Task) (listing : Listing) → IsFront before now → ListsJob before task listing
+abbrev pub lists-later : (before now : List TrailItem) (task : Task) (listing : Listing) → IsFront before now → ListsJob before task listing
     → ListsJob now task listing
 lists-later before now task listing front lists = record {
   recs_of = lists.recs_of;
@@ -369,7 +369,6 @@ major-so trail task recs_of bucket listing recs (Err why) same staged none rows 
 
 pub all-by-some : (trail : List TrailItem) (task : Task) (listing : Listing) (some : Bool) → task.kind ≡ kind.Major → some ≡ true
     → HasWrittenBase trail task listing some → HasStagedAll trail task.job
-unfolding lists-later
 all-by-some trail task listing some is so written = λ now front book.
     base-staged now task listing (lists-later trail now task listing front written.lists) is book
     (base-later trail now task written.lists.recs_of (buckets_of listing.inserts.items) listing true front
@@ -377,7 +376,6 @@ all-by-some trail task listing some is so written = λ now front book.
 
 pub all-by-bare : (before mid : List TrailItem) (task : Task) (listing : Listing) (some : Bool) → task.kind ≡ kind.Major → some ≡ false
     → IsFront before mid → HasWrittenBase before task listing some → IsStagedIn mid task.job (base_of task) 0 → HasStagedAll mid task.job
-unfolding lists-later
 all-by-bare before mid task listing some is so front written staged = λ now later book.
     let whole = front-more before mid now front later in
     bare-staged now task listing (lists-later before now task listing whole written.lists) is book
@@ -388,7 +386,6 @@ all-by-bare before mid task listing some is so front written staged = λ now lat
 pub written-base : (before now : List TrailItem) (task : Task) (listing : Listing) (some : Bool) (files : List DirFile) (buckets : ℕ)
     → IsFront before now → files ≡ listing.inserts.items → buckets ≡ buckets_of files → (lists : ListsJob before task listing)
     → HasBaseStaged now task lists.recs_of buckets listing some → HasWrittenBase now task listing some
-unfolding lists-later
 written-base before now task listing some files buckets front are count lists base = record {
   lists = lists-later before now task listing front lists;
   staged =
@@ -400,7 +397,6 @@ pub all-by-kinds : (before mid then_ : List TrailItem) (task : Task) (listing : 
     → deletes ≡ listing.deletes.items → rows ≡ buckets_of inserts → gone ≡ buckets_of deletes → (lists : ListsJob before task listing)
     → HasKindStaged mid task lists.recs_of false rows listing → HasKindStaged then_ task lists.recs_of true gone listing
     → HasStagedAll then_ task.job
-unfolding lists-later
 all-by-kinds before mid then_ task listing rows gone inserts deletes is front more ins del count counted lists first next = λ now later book.
     minor-staged now task listing (lists-later before now task listing (front-more before then_ now (front-more before mid then_ front more) later) lists)
     is book
