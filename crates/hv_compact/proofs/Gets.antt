@@ -56,6 +56,13 @@ is-meant deletes bucket span kind other recs file none =
     let meant = none-amiss deletes bucket span kind other recs (sym none) in
     subst (λ (k : Bool). IsFile k bucket recs) (sym meant.0) (subst (λ (b : ℕ). IsFile kind b recs) meant.1 file)
 
+pub meant-if : (deletes : Bool) (bucket : ℕ) (span : Span) (kind : Bool) (other : ℕ) (recs : List Rec) (amiss : Option ℕ) (result : Result (Vec Rec) Stop)
+    → IsFile kind other recs → amiss ≡ first_amiss deletes bucket span kind other recs → IfOk result (λ found. amiss ≡ None)
+    → IfOk result (λ found. found.items ≡ recs) → IfOk result (λ found. IsFile deletes bucket found.items)
+meant-if deletes bucket span kind other recs amiss (Ok found) file is none same =
+    subst (IsFile deletes bucket) (sym same) (is-meant deletes bucket span kind other recs file (sym none ∙ is))
+meant-if deletes bucket span kind other recs amiss (Err why) file is none same = tt
+
 -- two files that are spelled alike have the same records
 pub same-records : (deletes kind : Bool) (bucket other : ℕ) (recs others : List Rec) (bytes : List ℕ) → IsEncodingOf deletes bucket recs bytes
     → IsFile kind other others → bytes ≡ file_spelling kind other others → others ≡ recs
@@ -141,7 +148,7 @@ module _ {D : Type 0} (told : D → Option Store) (faults : D → ℕ) (between 
   abbrev WorksOf : {T : Type 0} → Moment (ToldHouse D) → Moment (ToldHouse D) → Result T Stop → Type 0
   WorksOf a b result = Works (among told faults between meanwhile) job a b result
 
-  pub works-none : AreRows between → (m : Moment (ToldHouse D)) → IsOpenHouse m.house → WorksOf m m (Ok tt)
+  pub works-none : AreRows between → (m : Moment (ToldHouse D)) → IsOpenHouse m.house → WorksOf {T = Unit {0}} m m (Ok tt)
   works-none rows m running = works-ok told faults between meanwhile job m m tt [] (adds-none faults between rows m) tt tt running
 
   -- the same, of another answer

@@ -1,5 +1,5 @@
 -- What a listing says stays true while the job works; and once its buckets are staged, all that it is to stage is.
-use Rattle.std.proofs.Common.{◌≡◌, ◌⊎◌, inl, inr, ◌≤◌, ◌<◌, ◌+◌, ℕ, Bool, true, false, true≢false, Option, Some, None, List, [], ◌∷◌, map, length, Result, Ok, Err, refl, sym, ap, ◌∙◌, subst, arith}
+use Rattle.std.proofs.Common.{◌≡◌, ◌⊎◌, inl, inr, ◌≤◌, ◌<◌, ◌+◌, ℕ, suc, Bool, true, false, true≢false, Option, Some, None, List, [], ◌∷◌, map, length, Result, Ok, Err, refl, sym, ap, ◌∙◌, subst, arith}
 use Rattle.std.specs.Prelude.{IfOk, IsSomeAnd, ◌==◌, ◌||◌, not, nat_lt}
 use Rattle.std.proofs.lemmas.Bool.{eqb-true, eq-eqb}
 use Rattle.std.proofs.lemmas.Bool.Decides.{nat_tests}
@@ -37,7 +37,7 @@ pub whenever-later : (before now : List TrailItem) (job : JobId) (P : State → 
     → Whenever now job P
 whenever-later before now job P front when = λ then_ more book j work. when then_ (front-more before now then_ front more) book j work
 
-pub lists-later : (before now : List TrailItem) (task : Task) (listing : Listing) → IsFront before now → ListsJob before task listing
+abbrev pub lists-later : (before now : List TrailItem) (task : Task) (listing : Listing) → IsFront before now → ListsJob before task listing
     → ListsJob now task listing
 lists-later before now task listing front lists = record {
   recs_of = lists.recs_of;
@@ -87,7 +87,9 @@ if-later (r ∷ recs) P Q step holds = step holds
 
 pub empty-so : (recs : List Rec) (b : Bool) → b ≡ (length recs == 0) → b ≡ true → recs ≡ []
 empty-so [] b is so = refl
-empty-so (r ∷ recs) b is so = absurd (true≢false (sym so ∙ is))
+empty-so (r ∷ recs) b is so =
+    let none : suc (length recs) ≡ 0 = eqb-true (suc (length recs)) 0 (sym is ∙ so) in
+    absurd (omega (arith, none))
 
 pub empty-not : (recs : List Rec) (b : Bool) → b ≡ (length recs == 0) → b ≡ false → recs ≡ [] → ⊥
 empty-not [] b is so none = true≢false (sym is ∙ so)

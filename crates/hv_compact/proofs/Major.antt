@@ -13,7 +13,7 @@ use Rattle.hv_base.specs.Identifiers.{row_id_cmp, row_id_total}
 use Rattle.hv_base.specs.Sorting.{rising_by}
 use Rattle.hv_shelf.specs.Disk as disk
 use Rattle.hv_shelf.specs.Disk.{places_of}
-use Rattle.hv_value.specs.declared.value.Value.{Value}
+use Rattle.hv_logic.specs.hv_value.specs.declared.value.Value.{Value}
 use Rattle.hv_logic.specs.declared.catalog.Shape.{Shape}
 use Rattle.hv_logic.specs.declared.effect.Found.{Found}
 use Rattle.hv_logic.specs.Rows.{found_cmp}

@@ -35,20 +35,20 @@ Decided A = A ⊎ (A → ⊥)
 
 both : {A B : Type 0} → Decided A → Decided B → Decided (A × B)
 both (inl a) (inl b) = inl (a, b)
-both (inl a) (inr no) = inr (λ it. no it.1)
-both (inr no) other = inr (λ it. no it.0)
+both (inl a) (inr never) = inr (λ it. never it.1)
+both (inr never) other = inr (λ it. never it.0)
 
 abbrev Below : (ℕ → Type 0) → ℕ → Type 0
 Below P n = (k : ℕ) × (k < n) × P k
 
 not-below : (P : ℕ → Type 0) (n : ℕ) → (P n → ⊥) → (Below P n → ⊥) → Below P (suc n) → ⊥
-not-below P n no none it = elim (either (nat_lt it.0 n)) [
+not-below P n never none it = elim (either (nat_lt it.0 n)) [
   | inl less ↦ none (it.0, ltb-true it.0 n less, it.2)
   | inr most ↦
       let low = ltb-false it.0 n most in
       let high = it.1 in
       let same : it.0 ≡ n = omega (arith, low, high) in
-      no (subst P same it.2)
+      never (subst P same it.2)
 ]
 
 below : (P : ℕ → Type 0) → ((k : ℕ) → Decided (P k)) → (n : ℕ) → Decided (Below P n)
@@ -57,8 +57,8 @@ below P each (suc n) = by (each n) (below P each n)
   where
     by : Decided (P n) → Decided (Below P n) → Decided (Below P (suc n))
     by (inl is) rest = inl (n, omega arith, is)
-    by (inr no) (inl it) = inl (it.0, (let less = it.1 in omega (arith, less)), it.2)
-    by (inr no) (inr none) = inr (not-below P n no none)
+    by (inr never) (inl it) = inl (it.0, (let less = it.1 in omega (arith, less)), it.2)
+    by (inr never) (inr none) = inr (not-below P n never none)
 
 is-there : (k : ℕ) → Decided (1 ≤ k)
 is-there zero = inr (λ low. omega (arith, low))
@@ -67,7 +67,7 @@ is-there (suc k) = inl (omega arith)
 text-is : (text : List ℕ) (name : DirName) → Decided (text_of name ≡ text)
 text-is text name = elim (either (pointwise nat_eq (text_of name) text)) [
   | inl e ↦ inl (same-text (text_of name) text e)
-  | inr no ↦ inr (λ same. true≢false (sym (text-same (text_of name) text same) ∙ no))
+  | inr never ↦ inr (λ same. true≢false (sym (text-same (text_of name) text same) ∙ never))
 ]
 
 -- ---- the directory of a text
@@ -137,27 +137,27 @@ found-at text (inr no_base) own wide = owns (own false) (own true)
       is = ((it.2.2.0, (let low = it.2.1 in omega (arith, low)), it.1), it.2.2.1);
     }
 
-    by-kind : {P : Bool → Type 0} → (P false → ⊥) → (P true → ⊥) → (deletes : Bool) → P deletes → ⊥
-    by-kind no_false no_true false = no_false
-    by-kind no_false no_true true = no_true
+    by-kind : (P : Bool → Type 0) → (P false → ⊥) → (P true → ⊥) → (deletes : Bool) → P deletes → ⊥
+    by-kind P no_false no_true false = no_false
+    by-kind P no_false no_true true = no_true
 
     wides : ((deletes : Bool) → Below (HasOwn text write_end statement_end deletes) write_end → ⊥)
         → Decided (Below (HasWide text write_end statement_end false) write_end) → Decided (Below (HasWide text write_end statement_end true) write_end)
         → Finds text
     wides no_own (inl it) other = of-wide false it
-    wides no_own (inr no) (inl it) = of-wide true it
-    wides no_own (inr no) (inr nor) = record {
+    wides no_own (inr never) (inl it) = of-wide true it
+    wides no_own (inr never) (inr nor) = record {
       it = None;
       is = none-at text no_base no_own
-          (by-kind {P = λ (deletes : Bool). Below (HasWide text write_end statement_end deletes) write_end} no nor);
+          (by-kind (λ (deletes : Bool). Below (HasWide text write_end statement_end deletes) write_end) never nor);
     }
 
     owns : Decided (Below (HasOwn text write_end statement_end false) write_end) → Decided (Below (HasOwn text write_end statement_end true) write_end)
         → Finds text
     owns (inl it) other = of-own false it
-    owns (inr no) (inl it) = of-own true it
-    owns (inr no) (inr nor) =
-        wides (by-kind {P = λ (deletes : Bool). Below (HasOwn text write_end statement_end deletes) write_end} no nor) (wide false) (wide true)
+    owns (inr never) (inl it) = of-own true it
+    owns (inr never) (inr nor) =
+        wides (by-kind (λ (deletes : Bool). Below (HasOwn text write_end statement_end deletes) write_end) never nor) (wide false) (wide true)
 
 unfoldable find : (text : List ℕ) → Finds text
 find text = found-at text (a-base text write_end statement_end) (an-own text write_end statement_end) (a-wide text write_end statement_end)

@@ -1,6 +1,6 @@
 //! The files of a job, read one by one, each by an act.
 
-ghost use Rattle.std.specs.Prelude.{◌≡◌, ◌++◌, ◌∷◌, [], true, List, map, IfOk, IfErr, OnOk};
+ghost use Rattle.std.specs.Prelude.{◌≡◌, ◌++◌, ◌∷◌, [], None, true, List, map, IfOk, IfErr, OnOk};
 ghost use Rattle.std.specs.Global.{Vec};
 ghost use Rattle.hv_rowfile.specs.declared.record.Rec.{Rec};
 ghost use Rattle.hv_rowfile.specs.Layout.{IsFile};
@@ -79,6 +79,23 @@ fn undecoded(alloc: Global, place: &Place, fault: FileFault) -> Stop
     }
 }
 
+/// The records of the file at this place, where nothing was amiss.
+fn unamiss(
+    alloc: Global,
+    place: &Place,
+    amiss: Option<u64>,
+    recs: Vec<Rec>,
+) -> Result<Vec<Rec>, Stop>
+    ensures none { IfOk result (λ found. amiss ≡ None) }
+    ensures same { IfOk result (λ found. found.items ≡ recs.items) }
+    ensures spoilt { IfErr result (IsSpoilt place.now) }
+{
+    match amiss {
+        Some(at) => Err(spoilt(alloc, place, at)),
+        None => Ok(recs),
+    }
+}
+
 /// These records of a file, where it is one of the kind, the bucket and the write ids that are meant.
 fn meant(
     alloc: Global,
@@ -96,8 +113,7 @@ fn meant(
     let place = &file.place;
     let span = file.dir.span();
     match first_amiss(alloc, deletes, place.bucket, span, kind, other, &recs) {
-        Ok(Some(at)) => Err(spoilt(alloc, place, at)),
-        Ok(None) => Ok(recs),
+        Ok(amiss) => unamiss(alloc, place, amiss, recs),
         Err(NoMemory) => Err(Stop::GiveUp(JobCause::Memory)),
     }
 }

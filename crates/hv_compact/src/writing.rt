@@ -48,7 +48,7 @@ fn buckets_of(files: &[DirFile]) -> u64
 {
     let mut count = 0;
     for file in files {
-        count = larger(u64::from(file.place.bucket) + 1, count);
+        count = larger(file.place.bucket as u64 + 1, count);
     }
     count
 }

@@ -13,7 +13,7 @@ use Rattle.hv_compact.proofs.reading.read_bucket.Given as goal
 abbrev pub invariant-loop-file : goal.invariant-loop-file
 invariant-loop-file g l =
     g.W.Actor.keeps l.actor
-    × Works (among g.D.Shelf.told g.D.Shelf.faults g.W.Actor.between g.W.Actor.meanwhile) l.task.job
+    × Works {T = Unit {0}} (among g.D.Shelf.told g.D.Shelf.faults g.W.Actor.between g.W.Actor.meanwhile) l.task.job
     (known (g.W.Actor.own l.fn.actor) (g.W.Actor.house l.fn.actor)) (known (g.W.Actor.own l.actor) (g.W.Actor.house l.actor)) (Ok tt)
     × AreFilesOf l.deletes l.bucket (items_in l.read.items)
     × ((recs_of : DirFile → List Rec) → IsToldHouse g.D.Shelf.told (g.W.Actor.house l.fn.actor).house

@@ -20,8 +20,8 @@ returns-in-Ok-clause-left g c = λ is lists.
     let a = (known (g.W.Actor.own c.args.actor.now) (g.W.Actor.house c.args.actor.now)) in
     let b = known (g.W.Actor.own c.read_bucket.new.actor) (g.W.Actor.house c.read_bucket.new.actor) in
     let front = works-front g.D.Shelf.told g.D.Shelf.faults g.W.Actor.between g.W.Actor.meanwhile c.args.task.job a b (Ok c.in-Ok.deletes) c.in-Ok.ensures.works in
-    left-so lists.recs_of c.args.task c.args.bucket c.args.listing.now (items_in c.deref-2.result.now) c.merge_read.result c.requires.major
-    (ap items_in c.deref-2.ensures.value
+    left-so lists.recs_of c.args.task c.args.bucket c.args.listing.now (items_in c.deref-in-Ok.result.now) c.merge_read.result c.requires.major
+    (ap items_in c.deref-in-Ok.ensures.value
     ∙ c.in-Ok.ensures.made lists.recs_of is
     (subst (ReadsEach (trail_in a.house) c.args.task.job true lists.recs_of) (sym c.deref.ensures.value) lists.deletes)
     ∙ ap (λ (fs : List DirFile). map lists.recs_of (taken_in c.args.task.kind c.args.bucket fs)) c.deref.ensures.value)

@@ -18,14 +18,14 @@ returns-in-Ok-clause-works g c =
     staged-works g.D.Shelf.told g.D.Shelf.faults g.W.Actor.between g.W.Actor.meanwhile g.met.W.Actor.goes_on
     (known (g.W.Actor.own c.args.actor.now) (g.W.Actor.house c.args.actor.now)) (known (g.W.Actor.own c.hold.new.self) (g.W.Actor.house c.hold.new.self))
     c.requires.running c.args.task.job c.args.name.now c.args.bucket c.args.bytes.now c.hold.result c.hold.ensures.held c.hold.ensures.went
-    c.in-Ok.field-0 tt c.in-Ok.is
+    c.in-Ok._place tt c.in-Ok.is
 
 pub returns-in-Ok-clause-staged : goal.returns-in-Ok-clause-staged
 returns-in-Ok-clause-staged g c =
     staged-in g.D.Shelf.told g.D.Shelf.faults g.W.Actor.between g.W.Actor.meanwhile g.met.W.Actor.goes_on
     (known (g.W.Actor.own c.args.actor.now) (g.W.Actor.house c.args.actor.now)) (known (g.W.Actor.own c.hold.new.self) (g.W.Actor.house c.hold.new.self))
     c.requires.running c.args.task.job c.args.name.now c.args.bucket c.args.bytes.now c.hold.result c.hold.ensures.held c.hold.ensures.went
-    c.in-Ok.field-0 c.in-Ok.is
+    c.in-Ok._place c.in-Ok.is
 
 pub returns-in-Err-clause-works : goal.returns-in-Err-clause-works
 returns-in-Err-clause-works g c =

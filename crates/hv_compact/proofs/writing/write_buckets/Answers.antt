@@ -1,6 +1,7 @@
-use Rattle.std.proofs.Common.{Ok, refl}
+use Rattle.std.proofs.Common.{◌≡◌, ℕ, Ok, refl, subst, arith}
 use Rattle.hv_actor.specs.Acting.{known}
 use Rattle.hv_job_acts.specs.hv_acts.specs.Told.{trail_in}
+use Rattle.hv_compact.specs.Writing.{HasBaseStaged}
 use Rattle.hv_compact.proofs.Gets.{works-none, works-then, works-up, works-done, works-front, works-told, works-untold}
 use Rattle.hv_compact.proofs.Lists.{lists-later, base-none, base-more}
 use Rattle.hv_compact.proofs.writing.write_buckets.Goals as goal
@@ -51,3 +52,10 @@ pub returns-clause-works : goal.returns-clause-works
 returns-clause-works g c =
     works-done g.D.Shelf.told g.D.Shelf.faults g.W.Actor.between g.W.Actor.meanwhile c.args.task.job (known (g.W.Actor.own c.args.actor.now) (g.W.Actor.house c.args.actor.now)) (known (g.W.Actor.own c.loop-bucket.actor) (g.W.Actor.house c.loop-bucket.actor)) tt c.loop-bucket.some
     c.loop-bucket.invariant.1
+
+pub returns-clause-staged : goal.returns-clause-staged
+returns-clause-staged g c = λ is lists.
+    let end : c.loop-bucket.bucket ≡ c.args.buckets = omega (arith, c.loop-bucket-test.false, c.loop-bucket.auto.bucket-end) in
+    subst
+    (λ (n : ℕ). HasBaseStaged (trail_in (g.W.Actor.house c.loop-bucket.actor)) c.args.task lists.recs_of n c.args.listing.now c.loop-bucket.some) end
+    (c.loop-bucket.invariant.2 is lists)

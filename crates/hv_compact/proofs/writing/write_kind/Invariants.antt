@@ -10,7 +10,7 @@ use Rattle.hv_compact.proofs.writing.write_kind.Given as goal
 abbrev pub invariant-loop-bucket : goal.invariant-loop-bucket
 invariant-loop-bucket g l =
     g.W.Actor.keeps l.actor
-    × Works (among g.D.Shelf.told g.D.Shelf.faults g.W.Actor.between g.W.Actor.meanwhile) l.task.job
+    × Works {T = Unit {0}} (among g.D.Shelf.told g.D.Shelf.faults g.W.Actor.between g.W.Actor.meanwhile) l.task.job
     (known (g.W.Actor.own l.fn.actor) (g.W.Actor.house l.fn.actor)) (known (g.W.Actor.own l.actor) (g.W.Actor.house l.actor)) (Ok tt)
     × (IsToldHouse g.D.Shelf.told (g.W.Actor.house l.fn.actor).house
     → (lists : ListsJob (trail_in (g.W.Actor.house l.fn.actor)) l.task l.listing)

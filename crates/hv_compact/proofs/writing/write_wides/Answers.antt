@@ -30,9 +30,9 @@ returns-in-Ok-clause-staged g c = λ is.
     let front = works-front g.D.Shelf.told g.D.Shelf.faults g.W.Actor.between g.W.Actor.meanwhile c.args.task.job a b (Ok tt) c.in-Ok.ensures.works in
     let later = works-front g.D.Shelf.told g.D.Shelf.faults g.W.Actor.between g.W.Actor.meanwhile c.args.task.job b e c.write_kind-in-Ok.result c.write_kind-in-Ok.ensures.works in
     ok-weaker c.write_kind-in-Ok.result _ _
-    (λ x staged. all-by-kinds (trail_in a.house) (trail_in b.house) (trail_in e.house) c.args.task c.args.listing.now c.rows.result c.gone-in-Ok.result
+    (λ x staged. all-by-kinds (trail_in a.house) (trail_in b.house) (trail_in e.house) c.args.task c.args.listing.now c.buckets_of-rows.result c.buckets_of-gone.result
     c.deref.result.now c.deref-in-Ok.result.now c.requires.minor front later
-    c.deref.ensures.value c.deref-in-Ok.ensures.value c.rows.ensures.count c.gone-in-Ok.ensures.count lists (c.in-Ok.ensures.staged is lists) staged)
+    c.deref.ensures.value c.deref-in-Ok.ensures.value c.buckets_of-rows.ensures.count c.buckets_of-gone.ensures.count lists (c.in-Ok.ensures.staged is lists) staged)
     (c.write_kind-in-Ok.ensures.staged mid (lists-later (trail_in a.house) (trail_in b.house) c.args.task c.args.listing.now front lists))
 
 pub returns-in-Err-clause-works : goal.returns-in-Err-clause-works
