@@ -48,7 +48,7 @@ abbrev pub free_in : List Entry → List JobId
 free_in book = filter (is_free (state_of book)) (ready_in (state_of book))
 
 abbrev pub swept_with : List Entry → List JobId → List LostId → List Entry
-swept_with book jobs ids = book ++ map entry.Cleaned jobs ++ map forgot_entry ids
+swept_with book jobs ids = book ++ (map entry.Cleaned jobs ++ map forgot_entry ids)
 
 -- whatever failed or was listed still: some of the free jobs were noted as cleaned, and then some of the aborted ids as forgotten
 pub record SweepsSome (before now : List Entry) : Type 0 where

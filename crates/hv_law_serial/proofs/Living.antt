@@ -7,7 +7,7 @@ use Rattle.hv_base.specs.declared.ids.JobId.{JobId}
 use Rattle.hv_base.specs.declared.ids.WriteId.{WriteId}
 use Rattle.hv_history.specs.declared.entry.Entry.TheVariants as entry
 use Rattle.hv_history.specs.declared.entry.JobCause.TheVariants as job_cause
-use Rattle.hv_history.specs.State.{State, Job, numbered, picked, after}
+use Rattle.hv_history.specs.State.{State, Job, numbered, picked, acted, after}
 use Rattle.hv_history.specs.Jobs.{is_initiated}
 use Rattle.hv_history.specs.JobsFit.{first_initiated, is_live_job, PickedFits, FailedFits}
 use Rattle.hv_history.specs.Legal.{Fits, profile}
@@ -50,6 +50,7 @@ lives s (suc n) job is at = lives-at s s.jobs 1 (suc n) n job is (omega arith) a
 -- behind its Picked too
 alive-behind : (s : State) (job : JobId) (watermark : WriteId) (j : Job) → numbered s.jobs job.0 ≡ Some j → is_live_job s j ≡ true
     → IsAlive (after s (entry.Picked job watermark)) job.0
+unfolding acted
 alive-behind s job watermark j at live =
     subst (λ (o : Option Job). IsSomeAnd o (λ (x : Job). is_live_job (after s (entry.Picked job watermark)) x ≡ true))
     (sym (changed-here (picked watermark.0) s.jobs job.0 j at)) live
