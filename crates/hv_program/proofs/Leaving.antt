@@ -1,5 +1,5 @@
 -- What a store reads to where a pass stops: its book, or that and the one entry of the call that closed the house.
-use Rattle.std.proofs.Common.{◌≡◌, ◌⊎◌, ◌≤◌, inl, inr, ℕ, Option, Some, None, Result, IfErr, List, [], ◌∷◌, ◌++◌, length, refl, sym, ap, ◌∙◌, subst, append-nil, append_assoc, arith}
+use Rattle.std.proofs.Common.{◌≡◌, ◌⊎◌, ◌≤◌, ◌+◌, le_refl, inl, inr, ℕ, suc, Option, Some, None, Result, IfErr, List, [], ◌∷◌, ◌++◌, length, refl, sym, ap, ◌∙◌, subst, append-nil, append_assoc, arith}
 use Rattle.std.specs.List.{AllByRecursion}
 use Rattle.std.proofs.lemmas.List.{length-append}
 use Rattle.hv_base.specs.Told.{Moves}
@@ -57,7 +57,9 @@ more-some : (book more : List Entry) → 1 ≤ length book → 1 ≤ length (boo
 more-some book more some = omega (arith, some, length-append book more)
 
 behind-some : (book : List Entry) (first : Entry) (more : List Entry) → 1 ≤ length (book ++ first ∷ more)
-behind-some book first more = omega (arith, length-append book (first ∷ more))
+behind-some book first more =
+    let count : length (book ++ first ∷ more) ≡ length book + suc (length more) = length-append book (first ∷ more) in
+    omega (arith, count)
 
 -- a house that is open has the Boot of its opening
 pub opens-some : (told : Option Store) (now : List Entry) → Opens profile told now → 1 ≤ length now
@@ -90,8 +92,8 @@ further_of (Publish renames event) = event ∷ []
 further_of call = []
 
 few-of : (call : Call) → length (further_of call) ≤ 1
-few-of (Note event) = omega arith
-few-of (Publish renames event) = omega arith
+few-of (Note event) = le_refl 1
+few-of (Publish renames event) = le_refl 1
 few-of call = omega arith
 
 moved-journal : (renamings : List Renaming) (s t : Store) → AreMoved renamings s t → t.journal ≡ s.journal
