@@ -7,7 +7,7 @@ use Rattle.hv_base.specs.declared.ids.WriteId.{WriteId}
 use Rattle.hv_shelf.specs.Disk.{Store}
 use Rattle.hv_history.specs.declared.entry.Entry.{Entry}
 use Rattle.hv_history.specs.declared.entry.Entry.TheVariants as entry
-use Rattle.hv_history.specs.State.{State, Job, numbered, changed, changed_at, after, picked, first_of, state_of}
+use Rattle.hv_history.specs.State.{State, Job, numbered, changed, changed_at, after, picked, first_of, state_of, acted}
 use Rattle.hv_history.specs.Jobs.{Pieces, is_initiated}
 use Rattle.hv_history.specs.JobsFit.{is_live_job, first_initiated}
 use Rattle.hv_history.specs.Lasting.{IsFront}
@@ -96,6 +96,7 @@ first-some (Some m) n = refl
 
 taken-there : (state : State) (n : ℕ) (mark : WriteId) → to_pick state ≡ Some n
     → (j : Job) × (numbered (after state (entry.Picked (record { 0 = n }) mark)).jobs n ≡ Some j) × IsSome j.watermark
+unfolding acted
 taken-there state n mark is =
     let there = first-there state 1 state.jobs n is in
     let at = there.1 in

@@ -1,5 +1,5 @@
 -- How a job that was taken up ends.
-use Rattle.std.proofs.Common.{◌≡◌, ◌+◌, ℕ, Bool, true, false, if◌then◌else◌, true≢false, Option, Some, None, List, [], ◌∷◌, ◌++◌, Result, Ok, Err, refl, sym, subst, arith}
+use Rattle.std.proofs.Common.{◌≡◌, ℕ, Bool, true, false, if◌then◌else◌, true≢false, Option, Some, None, List, [], ◌∷◌, ◌++◌, Result, Ok, Err, refl, sym, subst, arith}
 use Rattle.std.specs.Prelude.{IfOk, IfErr, Contains}
 use Rattle.std.specs.List.{AllByRecursion}
 use Rattle.std.proofs.lemmas.Bool.{eqb-true}
@@ -60,7 +60,7 @@ broken-mark job put count (Marked (Broke by broke at) ∷ items) is = by_test (i
         → (broken (reader.Job job) items ≡ Some (put, count) → Contains items (job_mark job put count))
         → Contains (Marked (Broke by broke at) ∷ items) (job_mark job put count)
     by_test true mine e later =
-        let same : (broke, at) ≡ (put, count) = cc in
+        let same : ◌≡◌ {A = Bool × ℕ} (broke, at) (put, count) = cc in
         subst (λ (p : Bool × ℕ). Contains (Marked (Broke by broke at) ∷ items) (job_mark job p.0 p.1)) same
         (subst (λ (o : Option Reader). Contains (Marked (Broke by broke at) ∷ items) (Marked (Broke o broke at))) (same-job job by mine)
         (0, omega arith, refl))
