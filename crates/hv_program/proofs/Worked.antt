@@ -74,9 +74,9 @@ picked-kind items picked = absurd picked
 
 beside-answer : (book : List Entry) (answer : Finished) → AddsBeside IsCompacting book (picked_with book answer)
 beside-answer book done.Idle = record { added = []; book = sym (append-nil book); of_it = tt }
-beside-answer book done.Nothing = record { added = _; book = refl; of_it = (tt, tt, tt) }
-beside-answer book (done.Published job mark) = record { added = _; book = refl; of_it = (tt, published-kind _ job _, tt) }
-beside-answer book (done.GivenUp job why) = record { added = _; book = refl; of_it = (tt, tt, tt) }
+beside-answer book done.Nothing = record { added = _; book = refl; of_it = (tt, (tt, tt)) }
+beside-answer book (done.Published job mark) = record { added = _; book = refl; of_it = (tt, (published-kind _ job _, tt)) }
+beside-answer book (done.GivenUp job why) = record { added = _; book = refl; of_it = (tt, (tt, tt)) }
 
 module _ {D : Type 0} (told : D → Option Store) (faults : D → ℕ) (own own' : List ℕ) (before now : ToldHouse D) where
   abbrev Alone : Setting D (ToldHouse D)
