@@ -1,11 +1,12 @@
 #!/bin/bash
 # What a folder shows in which compactions stand, over real files: tests/compacted_folder.sh PROGRAM [EVERY]
 #
-# PROGRAM is the built program, as crates/hive/out/hive. Nothing does a compaction that was asked for yet: so the journals and the row
+# PROGRAM is the built program, as crates/hive/out/hive. Jobs that are under way, or ended long ago, stand in folders whose journals and row
 # files are written here, byte by byte (docs/FORMATS.md), and what a run prints and notes over them was worked out by hand
-# (docs/COMPACTION.md). tools/hive-book reads what was noted. Where strace is there, the files that a query opens are counted;
-# and where EVERY is above 0, too, an opening that ends two compactions is killed at each EVERY-th of its calls of the system
-# (3 if left out). Each case that isn't so prints a line; the last line says how many are, and the status is 1 where one isn't.
+# (docs/COMPACTION.md); others are done by a script's `!compact` and `!clean`. tools/hive-book reads what was noted. Where strace is there,
+# the files that a query opens are counted; and where EVERY is above 0, too, an opening that ends two compactions, and a run that compacts
+# and cleans, are killed at each EVERY-th of their calls of the system (3 if left out). Each case that isn't so prints a line; the last line
+# says how many are, and the status is 1 where one isn't.
 set -u
 here=$(dirname "$(realpath "$0")")
 # shellcheck source=tests/cases.sh
@@ -456,6 +457,92 @@ so "what the base covers may hold anything" is printed "n${tab}s" "13${tab}91"
 rm -r wh/tables/0000001/delta_000000[123]_*
 asks "$query"
 so "or be gone" is printed "n${tab}s" "13${tab}91"
+
+# ---- a run that compacts and cleans
+
+# passes DIRECTIVE..: runs them as a script.
+passes() {
+    printf '%s\n' "$@" >script
+    run wh <script
+}
+
+# Of three write ids in p=a the third deletes, and one of them is in p=b, too; a statement asks for a base of p=a.
+to_compact() {
+    fresh
+    asks 'CREATE TABLE t (a INT) PARTITIONED BY (p STRING)' "INSERT INTO t VALUES (1,'a')" "INSERT INTO t VALUES (2,'a'),(3,'b')" \
+        'DELETE FROM t WHERE a = 1' "ALTER TABLE t PARTITION (p='a') COMPACT 'major'"
+}
+
+its_rows=("p${tab}a" "a${tab}2" "b${tab}3")
+its_files=(p=a/delete_delta_0000003_0000003_0000 p=a/delta_0000001_0000001_0000 p=a/delta_0000002_0000002_0000)
+of_b=p=b/delta_0000002_0000002_0000
+
+# shows NAME: the rows are those that stood.
+shows() {
+    asks 'SELECT p, a FROM t ORDER BY p, a'
+    so "$1: the folder opens" is_status 0
+    so "$1: and its rows are shown" is printed "${its_rows[@]}"
+}
+
+echo "== a run that compacts and cleans"
+to_compact
+so "it is asked for" is_status 0
+so "and nothing is done yet" is directories "${its_files[@]}" "$of_b"
+passes '!compact'
+so "it is compacted" is_status 0
+so "nothing is printed" silent
+so "the job has published its range" is ends 'Published job 1, low 1, high 3, mark 6'
+so "its base stands beside what it covers" is directories p=a/base_0000003 "${its_files[@]}" "$of_b"
+so "with the row that stands" cmp wh/tables/0000001/p=a/base_0000003/bucket_00000 <(bytes "4856523100$(four 0)$(eight 1)$(row 2 0 2)")
+shows "behind it"
+passes '!clean'
+so "it is cleaned" is_status 0
+so "and nothing is printed" silent
+so "the job is cleaned" is ends 'Published job 1, low 1, high 3, mark 6' 'Cleaned job 1'
+so "its base stands alone" is directories p=a/base_0000003 "$of_b"
+shows "behind that"
+passes '!compact' '!clean'
+so "then nothing is due" is ends 'Published job 1, low 1, high 3, mark 6' 'Cleaned job 1'
+
+# The job has one end, by which its base stands alone or what statements wrote does.
+ended_once() {
+    if [ "$(ends)" = 'Failed job 1, cause Lost' ]; then
+        is directories "${its_files[@]}" "$of_b"
+    else
+        [ "$(ends | grep -c '^Published job 1, low 1, high 3, ')" = 1 ] && [ "$(ends | tail -n +2)" = 'Cleaned job 1' ] \
+            && is directories p=a/base_0000003 "$of_b"
+    fi
+}
+
+killed_while_compacting() {
+    local number=1 lost=0
+    to_compact
+    cp -r wh asked
+    while :; do
+        rm -rf wh
+        cp -r asked wh
+        printf '%s\n' '!compact' '!clean' >script
+        strace -f -qqq -o /dev/null -e inject=all:signal=KILL:when=$number "$program" wh run <script >out 2>err
+        status=$?
+        is_status 0 && break
+        shows "behind a kill at call $number"
+        passes '!compact' '!clean'
+        so "a later run compacts and cleans behind a kill at call $number" is_status 0
+        so "the job has ended once behind a kill at call $number" ended_once
+        shows "then, behind a kill at call $number"
+        ends | grep -q '^Failed ' && lost=$((lost + 1))
+        number=$((number + every))
+    done
+    so "a run that compacts was killed at some calls" [ $number -gt 60 ]
+    so "at some of them the job was lost" [ $lost -gt 0 ]
+    so "one that isn't killed compacts and cleans" ended_once
+    echo "killed at each ${every}th of $number calls of a run that compacts and cleans"
+}
+
+if [ "$every" -gt 0 ] && command -v strace >/dev/null; then
+    echo "== one that is killed"
+    killed_while_compacting
+fi
 
 # ---- an opening that is killed
 

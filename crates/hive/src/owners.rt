@@ -162,8 +162,11 @@ fn window_after(
     let mut released = Vec::new(alloc);
     let mut closed = false;
     for action in after {
-        let Action::Release(session) = action else {
-            break;
+        let session = match action {
+            Action::Release(session) => session,
+            // They print nothing.
+            Action::Compact | Action::Clean => continue,
+            Action::Run(_) | Action::Announce(_) => break,
         };
         if session.place == place {
             closed = true;
@@ -273,6 +276,8 @@ impl Owners {
                 }
                 Ok(())
             }
+            // They print nothing.
+            Action::Compact | Action::Clean => Ok(()),
         }
     }
 }

@@ -254,7 +254,7 @@ each-same f g same n zero = refl
 each-same f g same n (suc count) =
     ap (λ (xs : List _). xs ++ each_of f (n + 1) count) (same n) ∙ ap (λ (xs : List _). g n ++ xs) (each-same f g same (n + 1) count)
 
-lost-same : (s0 s : State) → Same s0 s → lost_in s ≡ lost_in s0
+pub lost-same : (s0 s : State) → Same s0 s → lost_in s ≡ lost_in s0
 lost-same s0 s same =
     each-same (lost_of s) (lost_of s0) of-same 1 (length s.tables)
     ∙ ap (λ (ts : List Table). each_of (lost_of s0) 1 (length ts)) same.tables

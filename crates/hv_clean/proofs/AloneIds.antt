@@ -184,7 +184,7 @@ abbrev pub flat : List ℕ → List LostId → List LostId
 flat [] ids = []
 flat (table ∷ tables) ids = ids_of table ids ++ flat tables ids
 
-map-append : {A B : Type 0} (f : A → B) (xs ys : List A) → map f (xs ++ ys) ≡ map f xs ++ map f ys
+pub map-append : {A B : Type 0} (f : A → B) (xs ys : List A) → map f (xs ++ ys) ≡ map f xs ++ map f ys
 map-append f [] ys = refl
 map-append f (x ∷ xs) ys = ap (λ zs. f x ∷ zs) (map-append f xs ys)
 

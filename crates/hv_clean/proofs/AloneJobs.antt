@@ -43,7 +43,7 @@ pub went-alone : (B : List TrailItem → Type 0) → AddsNothing B → (gained :
 went-alone B none gained own own' a b w = w.seen ∙ ap (λ (xs : List TrailItem). a ++ xs) (woven-alone B none (length a) w.placed w.added w.woven ∙ w.items)
 
 -- marks are no entries
-no-entries : (xs : List TrailItem) → AllByRecursion IsSwept xs → book_of xs ≡ []
+pub no-entries : (xs : List TrailItem) → AllByRecursion IsSwept xs → book_of xs ≡ []
 no-entries [] all = refl
 no-entries (Noted event ∷ xs) all = absurd all.0
 no-entries (Marked mark ∷ xs) all = no-entries xs all.1
@@ -100,7 +100,7 @@ pends-from s0 n (suc count) = by (is_ready_in s0 (numbered s0.jobs n)) refl (pen
 pub all-pend : (s0 : State) → Pends s0 s0 1 (ready_in s0)
 all-pend s0 = pends-from s0 1 (length s0.jobs)
 
-pends-after : (s0 s : State) (job : JobId) (ids : List JobId) (low : ℕ) → job.0 < low → Pends s0 s low ids → Pends s0 (after s (entry.Cleaned job)) low ids
+pub pends-after : (s0 s : State) (job : JobId) (ids : List JobId) (low : ℕ) → job.0 < low → Pends s0 s low ids → Pends s0 (after s (entry.Cleaned job)) low ids
 unfolding acted
 pends-after s0 s job [] low below p = tt
 pends-after s0 s job (id ∷ ids) low below p =
@@ -115,7 +115,7 @@ pends-after s0 s job (id ∷ ids) low below p =
     further : job.0 < id.0 + 1
     further = omega (arith, below, above)
 
-same-after : (s0 s : State) (job : JobId) → Same s0 s → Same s0 (after s (entry.Cleaned job))
+pub same-after : (s0 s : State) (job : JobId) → Same s0 s → Same s0 (after s (entry.Cleaned job))
 unfolding acted
 same-after s0 s job same = record { transactions = same.transactions; tables = same.tables }
 
@@ -128,13 +128,13 @@ free-same s0 s same None = refl
 free-same s0 s same (Some job) = past-same s0 s same job.published
 
 -- a job that pends is free by the state it was listed in, where it is so now
-free-then : (s0 s : State) (id : JobId) (b : Bool) → Same s0 s → numbered s.jobs id.0 ≡ numbered s0.jobs id.0 → is_free_one s (numbered s.jobs id.0) ≡ b → is_free s0 id ≡ b
+pub free-then : (s0 s : State) (id : JobId) (b : Bool) → Same s0 s → numbered s.jobs id.0 ≡ numbered s0.jobs id.0 → is_free_one s (numbered s.jobs id.0) ≡ b → is_free s0 id ≡ b
 free-then s0 s id b same there is =
     ap (λ (o : Option Job). is_free_one s0 o) (sym there) ∙ sym (free-same s0 s same (numbered s.jobs id.0)) ∙ is
 
 -- ---- of what was so
 
-past-free : (s : State) (id : JobId) → OfJob s id.0 (CleanedFits profile s) → is_free_one s (numbered s.jobs id.0) ≡ true
+pub past-free : (s : State) (id : JobId) → OfJob s id.0 (CleanedFits profile s) → is_free_one s (numbered s.jobs id.0) ≡ true
 past-free s id fits = by (numbered s.jobs id.0) fits
   where
     by : (o : Option Job) → IsSomeAnd o (CleanedFits profile s) → is_free_one s o ≡ true

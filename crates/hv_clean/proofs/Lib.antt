@@ -11,3 +11,4 @@ pub mod Came
 pub mod AloneJobs
 pub mod AloneIds
 pub mod AloneAll
+pub mod AloneSome

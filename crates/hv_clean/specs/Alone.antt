@@ -1,5 +1,5 @@
 -- What a pass of a cleaner adds to the book where nobody else adds anything and no call on files fails.
-use Rattle.std.specs.Prelude.{◌≡◌, ℕ, Bool, false, Option, Some, None, List, [], ◌++◌, map, filter}
+use Rattle.std.specs.Prelude.{◌≡◌, ◌⊎◌, ℕ, Bool, false, Option, Some, None, List, [], ◌∷◌, ◌++◌, map, filter}
 use Rattle.hv_shelf.specs.Disk.{Store}
 use Rattle.hv_base.specs.declared.ids.JobId.{JobId}
 use Rattle.hv_history.specs.declared.entry.Entry.{Entry}
@@ -36,6 +36,27 @@ forgot_entry id = entry.Forgot id.table id.write
 
 abbrev pub cleaned_up : List Entry → List Entry
 cleaned_up book = book ++ cleaned_entries (state_of book) ++ map forgot_entry (lost_in (state_of book))
+
+-- some of these, in their order
+abbrev pub AreSome : {T : Type 0} → List T → List T → Type 0
+AreSome [] all = Unit {0}
+AreSome (x ∷ some) [] = ⊥
+AreSome (x ∷ some) (y ∷ all) = ((x ≡ y) × AreSome some all) ⊎ AreSome (x ∷ some) all
+
+-- the jobs of live tables that are ready, and below whose mark no transaction is open
+abbrev pub free_in : List Entry → List JobId
+free_in book = filter (is_free (state_of book)) (ready_in (state_of book))
+
+abbrev pub swept_with : List Entry → List JobId → List LostId → List Entry
+swept_with book jobs ids = book ++ (map entry.Cleaned jobs ++ map forgot_entry ids)
+
+-- whatever failed or was listed still: some of the free jobs were noted as cleaned, and then some of the aborted ids as forgotten
+pub record SweepsSome (before now : List Entry) : Type 0 where
+  pub jobs : List JobId
+  pub ids : List LostId
+  pub are_free : AreSome jobs (free_in before)
+  pub are_lost : AreSome ids (lost_in (state_of before))
+  pub goes : now ≡ swept_with before jobs ids
 
 -- where no call on files failed, and no directory of an aborted id was listed still
 abbrev pub PassesAlone : {D : Type 0} → (D → Option Store) → (D → ℕ) → (List TrailItem → Type 0)

@@ -1,5 +1,5 @@
 -- What actions leave of the transactions that are there: the book grows, and those that wait are there.
-use Rattle.std.proofs.Common.{◌≡◌, ℕ, inl, inr, Option, Some, None, List, [], ◌∷◌, ◌++◌, fold, refl, sym, ap, ◌∙◌, subst, append-nil, append_assoc}
+use Rattle.std.proofs.Common.{◌≡◌, ◌⊎◌, ℕ, inl, inr, Option, Some, None, List, [], ◌∷◌, ◌++◌, fold, refl, sym, ap, ◌∙◌, subst, append-nil, append_assoc}
 use Rattle.std.specs.Prelude.{Bool, true, false, if◌then◌else◌}
 use Rattle.std.specs.List.{AllByRecursion}
 use Rattle.std.proofs.lemmas.List.Sums.{fold-append}
@@ -18,11 +18,13 @@ use Rattle.hv_stands.proofs.Soundness.{all-mapped, all-more}
 use Rattle.hv_stands.proofs.Behind.{one-behind, opened-there, numbered-behind}
 use Rattle.hv_law_next.specs.Carrying.{IsRunningStore}
 use Rattle.hv_law_next.proofs.Going.{runs-on}
+use Rattle.hv_program.specs.Background.{IsCompacting, IsCleaning}
 use Rattle.hv_program.specs.Change.{from_to}
 use Rattle.hv_session.specs.hv_beginning.specs.hv_steps.specs.Ending.{IsAskBy, AddsNoneOrOne}
 use Rattle.hv_session.specs.hv_beginning.specs.hv_steps.proofs.Books.{all-append}
 use Rattle.hv_session.specs.Taking.{HoldsAt}
 use Rattle.hv_program.specs.Doing.{Waiting, Standing, waiting_in, without, is_session, asking_of, RepliesAtOnce, ReleasesOne, IsDone, AreDone}
+use Rattle.hv_program.proofs.Besides.{compacting-unlost, cleaning-unlost}
 
 -- ---- those that wait
 
@@ -50,10 +52,10 @@ all-without P name (x ∷ ws) h = by (all-without P name ws h.1) (is_session nam
     by rest true = h.1
     by rest false = (h.0, rest)
 
--- ---- the book grows, by entries of transactions
+-- ---- the book grows, by entries of transactions, of compactions and of cleaning
 
 abbrev pub IsOwned : Entry → Type 0
-IsOwned event = (txn : ℕ) × IsOf txn event
+IsOwned event = ((txn : ℕ) × IsOf txn event) ⊎ IsCompacting event ⊎ IsCleaning event
 
 abbrev pub AreOwned : List Entry → Type 0
 AreOwned events = AllByRecursion IsOwned events
@@ -65,15 +67,26 @@ same-grown : (before now : List Entry) → now ≡ before → Grown before now
 same-grown before now same = ([], same ∙ sym (append-nil before), tt)
 
 owned-of : (txn : ℕ) (events : List Entry) → AreOf txn events → AreOwned events
-owned-of txn events h = all-mapped (IsOf txn) IsOwned (λ event whose. (txn, whose)) events h
+owned-of txn events h = all-mapped (IsOf txn) IsOwned (λ event whose. inl (txn, whose)) events h
+
+owned-compacting : (events : List Entry) → AllByRecursion IsCompacting events → AreOwned events
+owned-compacting events h = all-mapped IsCompacting IsOwned (λ event is. inr (inl is)) events h
+
+owned-cleaning : (events : List Entry) → AllByRecursion IsCleaning events → AreOwned events
+owned-cleaning events h = all-mapped IsCleaning IsOwned (λ event is. inr (inr is)) events h
 
 owned-more : (events more : List Entry) → AreOwned events → AreOwned more → AreOwned (events ++ more)
 owned-more [] more h later = later
 owned-more (event ∷ events) more h later = (h.0, owned-more events more h.1 later)
 
+runs-on-one : (s : State) (event : Entry) → IsOwned event → IsRunningStore s → IsRunningStore (after s event)
+runs-on-one s event (inl owned) running = runs-on s event owned.0 owned.1 running
+runs-on-one s event (inr (inl is)) running = compacting-unlost s event is
+runs-on-one s event (inr (inr is)) running = cleaning-unlost s event is
+
 runs-on-by : (s : State) (events : List Entry) → AreOwned events → IsRunningStore s → IsRunningStore (fold after s events)
 runs-on-by s [] h running = running
-runs-on-by s (event ∷ events) h running = runs-on-by (after s event) events h.1 (runs-on s event h.0.0 h.0.1 running)
+runs-on-by s (event ∷ events) h running = runs-on-by (after s event) events h.1 (runs-on-one s event h.0 running)
 
 -- what is held has added entries of its own alone
 pub held-of : (hold : Option Stage) (txn : ℕ) (added : List Entry) → HoldsAt hold txn added → AreOf txn added
@@ -100,7 +113,7 @@ grows-one start book before now (action.Run statement) output refused (inl repli
   where
     by : RepliesAtOnce (from_to start book) (from_to before.book now.book) (asking_of statement) statement.hold output refused → Grown before.book now.book
     by (inl went) =
-        (opening before.book (asking_of statement) ∷ went.added, went.goes, ((next_number before.book, refl), owned-of (next_number before.book) went.added went.of_it))
+        (opening before.book (asking_of statement) ∷ went.added, went.goes, (inl (next_number before.book, refl), owned-of (next_number before.book) went.added went.of_it))
     by (inr (inl text)) = same-grown before.book now.book text.0
     by (inr (inr (inl full))) = same-grown before.book now.book full.0
     by (inr (inr (inr memory))) = same-grown before.book now.book memory.0
@@ -108,7 +121,7 @@ grows-one start book before now (action.Run statement) output refused (inr off) 
   opening before.book (asking_of statement) ∷ off.goes.added,
   off.goes.goes,
   (
-    (next_number before.book, refl),
+    inl (next_number before.book, refl),
     owned-of (next_number before.book) off.goes.added (held-of statement.hold (next_number before.book) off.goes.added off.goes.at_hold),
   ),
 )
@@ -117,6 +130,10 @@ grows-one start book before now (action.Release session) output refused done = b
     by : (o : Option Waiting) → ReleasesOne (from_to start book) before now session.name o output refused → Grown before.book now.book
     by None done = same-grown before.book now.book (ap (λ (s : Standing). s.book) done.0)
     by (Some w) done = (done.0.added, done.0.goes, owned-of w.txn done.0.added done.0.of_it)
+grows-one start book before now action.Compact output refused done =
+    (done.beside.added, done.beside.book, owned-compacting done.beside.added done.beside.of_it)
+grows-one start book before now action.Clean output refused done =
+    (done.beside.added, done.beside.book, owned-cleaning done.beside.added done.beside.of_it)
 
 pub grows-all : (start book : List Entry) (before now : Standing) (actions : List Action) (output : List ℕ) (refused : Bool)
     → AreDone (from_to start book) before now actions output refused → Grown before.book now.book
@@ -205,3 +222,7 @@ settled-one start book before now (action.Release session) output refused done s
           (all-without (IsThere now.book) session.name before.waiting
           (there-all before.book now.book before.waiting (done.0.added, done.0.goes, owned-of w.txn done.0.added done.0.of_it) settled.there));
     }
+settled-one start book before now action.Compact output refused done settled =
+    settled-beside before now (grows-one start book before now action.Compact output refused done) done.waiting_same settled
+settled-one start book before now action.Clean output refused done settled =
+    settled-beside before now (grows-one start book before now action.Clean output refused done) done.waiting_same settled

@@ -42,7 +42,9 @@ script-history faults book source written stores refused all calm =
     serial-history start last (actions_of source.was) all.served.output refused all.served.are_done (record {
       legal = all.served.is_book.legal;
       steady = adds-steadily faults.was faults.now calm.unrisen start last.book all.served.is_book.grows calm.in_memory;
+      unfailed = calm.unfailed;
       in_memory = calm.replies;
+      passes = calm.passes;
     }) in
     record {
       has_book = subst (λ (s : Standing). HasBook s.book stores.now) is all.served.has_book;

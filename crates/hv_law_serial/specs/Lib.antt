@@ -1,3 +1,4 @@
+pub mod Passes
 pub mod Serial
 pub mod History
 pub mod Scripts

@@ -13,7 +13,7 @@ use Rattle.hv_program.specs.Running.{beginning}
 use Rattle.hv_program.specs.Results.{HasBook}
 use Rattle.hv_program.specs.Headline.{IsAllDone}
 use Rattle.hv_law_serial.specs.Serial.{serial}
-use Rattle.hv_law_serial.specs.History.{AreInMemory}
+use Rattle.hv_law_serial.specs.History.{AreInMemory, AreWholePasses, AddsNoFailure}
 
 -- no transaction ended since memory lacked
 abbrev pub IsInMemory : Entry → Type 0
@@ -27,13 +27,18 @@ AddsInMemory start book = (added : List Entry) → book ≡ start ++ added → A
 abbrev pub history_of : Tree → List Entry → List ℕ → Standing
 history_of files book script = serial (beginning (opening_of files book)) (actions_of script)
 
--- In a run that did all its script the store's count of faults didn't rise, and memory was found, by its entries and by its replies.
+-- In a run that did all its script the store's count of faults didn't rise, and memory was found, by its entries and by its replies; no
+-- compaction was given up for a fault, damage or want of memory, and no pass of a cleaner left anything out but for want of room.
 pub record IsUntroubled (faults : Change ℕ) (book : List Entry) (source written : Change (List ℕ))
     (stores : Change Store) (refused : Bool)
     (all : IsAllDone faults book source written stores refused) : Type 0 where
   pub unrisen : faults.now ≤ faults.was
   pub in_memory : AddsInMemory (opening_of stores.was.tree book) all.served.last.book
+  pub unfailed : AddsNoFailure (opening_of stores.was.tree book) all.served.last.book
   pub replies : AreInMemory (from_to (opening_of stores.was.tree book) all.served.last.book)
+      (beginning (opening_of stores.was.tree book)) all.served.last
+      (actions_of source.was) all.served.output refused all.served.are_done
+  pub passes : AreWholePasses (from_to (opening_of stores.was.tree book) all.served.last.book)
       (beginning (opening_of stores.was.tree book)) all.served.last
       (actions_of source.was) all.served.output refused all.served.are_done
 

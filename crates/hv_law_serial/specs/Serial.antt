@@ -13,6 +13,7 @@ use Rattle.hv_history.specs.Legal.{is_open}
 use Rattle.hv_stands.specs.Running.{Asking, next_number, opening}
 use Rattle.hv_law_next.specs.Next.{lacks_room, carried_on}
 use Rattle.hv_program.specs.Doing.{Waiting, Standing, waiting_in, without, asking_of}
+use Rattle.hv_law_serial.specs.Passes.{compacted, cleaned}
 
 -- ---- a text that runs: it is a statement, of a form that is built
 
@@ -71,6 +72,8 @@ abbrev pub serial_one : Standing → Action → Standing
 serial_one before (action.Announce session) = before
 serial_one before (action.Run statement) = taken_up before (asking_of statement) statement.hold
 serial_one before (action.Release session) = released before session.name (waiting_in session.name before.waiting)
+serial_one before action.Compact = record { book = compacted before.book; waiting = before.waiting }
+serial_one before action.Clean = record { book = cleaned before.book; waiting = before.waiting }
 
 abbrev pub serial : Standing → List Action → Standing
 serial before [] = before

@@ -368,6 +368,8 @@ opens-none : (act : Action) → OpensOf act []
 opens-none (action.Announce session) = tt
 opens-none (action.Run statement) = tt
 opens-none (action.Release session) = tt
+opens-none action.Compact = tt
+opens-none action.Clean = tt
 
 no-ends : (number : Option ℕ) → AreNoEnds number []
 no-ends None = tt
@@ -379,7 +381,7 @@ stops-before told before act holds = record {
   halfway = record {
     added = [];
     book = sym (append-nil before.book);
-    of_it = none-of (number_of before act);
+    of_it = inl (none-of (number_of before act));
     fits = tt;
     legal = λ is. record { fit = tt; truthful = tt };
     unended = no-ends (number_of before act);
@@ -411,7 +413,7 @@ stops-in told txn why before now waiting act is h opens = record {
   halfway = record {
     added = h.added;
     book = h.book;
-    of_it = some-of _ txn h.added is h.of_it;
+    of_it = inl (some-of _ txn h.added is h.of_it);
     fits = h.fits;
     legal = h.legal;
     unended = some-ends _ txn h.added is h.unended;
@@ -437,7 +439,7 @@ begins-none why told statement standing now same fits leaves = record {
   halfway = record {
     added = [];
     book = same ∙ sym (append-nil standing.book);
-    of_it = tt;
+    of_it = inl tt;
     fits = tt;
     legal = λ is. record { fit = tt; truthful = tt };
     unended = tt;
@@ -454,7 +456,7 @@ opening-none why told statement book waiting now same fits leaves = record {
   halfway = record {
     added = [];
     book = same ∙ sym (append-nil book);
-    of_it = tt;
+    of_it = inl tt;
     fits = tt;
     legal = λ is. record { fit = tt; truthful = tt };
     unended = tt;

@@ -90,6 +90,8 @@ done-more start book more before now (action.Run statement) output refused (inr 
 })
 done-more start book more before now (action.Release session) output refused h =
     released-more start book more before now session.name (waiting_in session.name before.waiting) output refused h
+done-more start book more before now action.Compact output refused h = h
+done-more start book more before now action.Clean output refused h = h
 
 pub are-done-more : (start book more : List Entry) (before now : Standing) (actions : List Action) (output : List ℕ) (refused : Bool)
     → AreDone (from_to start book) before now actions output refused → AreDone (from_to start (book ++ more)) before now actions output refused
@@ -148,3 +150,5 @@ later-done start book before now (action.Run statement) output refused all (inr 
     subst (AllByRecursion (IsLater start)) (sym h.waits) (all-last (IsLater start) before.waiting _ all h.goes.own)
 later-done start book before now (action.Release session) output refused all h =
     later-released start book before now session.name (waiting_in session.name before.waiting) output refused all h
+later-done start book before now action.Compact output refused all h = subst (AllByRecursion (IsLater start)) (sym h.waiting_same) all
+later-done start book before now action.Clean output refused all h = subst (AllByRecursion (IsLater start)) (sym h.waiting_same) all

@@ -9,8 +9,8 @@ use Rattle.hv_script.specs.Script.{begins_directive, front}
 use Rattle.hv_script.specs.declared.actions.Action.{Action}
 use Rattle.hv_base.specs.declared.gate.Stage.TheVariants.{Start, Read, Commit}
 use Rattle.hv_script.specs.declared.kinds.Kind.{Kind}
-use Rattle.hv_script.specs.declared.kinds.Kind.TheVariants.{Statement, Session, Hold, Go, Unknown}
-use Rattle.hv_script.specs.Kinds.{behind, directive_of, hold_of, is_name, is_name_byte, kind_of, named, or_else, same_text, without_trail}
+use Rattle.hv_script.specs.declared.kinds.Kind.TheVariants.{Statement, Session, Hold, Go, Compact, Clean, Unknown}
+use Rattle.hv_script.specs.Kinds.{behind, directive_of, hold_of, is_name, is_name_byte, kind_of, named, or_else, same_text, without_trail, word_kind}
 use Rattle.hv_script.specs.Standing.{Standing, first_standing, is_faulty, is_held, after}
 use Rattle.hv_script.specs.Actions.{action_for, actions_from, actions_of, stage_of_pending}
 use Rattle.hv_session.specs.Doing.{IsHold}
@@ -49,6 +49,14 @@ hold-by false false false = tt
 named-hold : (stage : List ℕ) → IsNamed (hold_of stage)
 named-hold stage = hold-by (same_text stage (codes "start")) (same_text stage (codes "read")) (same_text stage (codes "commit"))
 
+word-by : (compact clean : Bool) → IsNamed (cond compact Compact (cond clean Clean Unknown))
+word-by true clean = tt
+word-by false true = tt
+word-by false false = tt
+
+named-word : (word : List ℕ) → IsNamed (word_kind word)
+named-word word = word-by (same_text word (codes "!compact")) (same_text word (codes "!clean"))
+
 or-named : (make : List ℕ → Kind) (found : Option (List ℕ)) (other : Kind) → ((rest : List ℕ) → IsNamed (make rest)) → IsNamed other → IsNamed (or_else make found other)
 or-named make None other each rest = rest
 or-named make (Some found) other each rest = each found
@@ -57,7 +65,7 @@ named-directive : (line : List ℕ) → IsNamed (directive_of line)
 named-directive line =
     or-named (named Session) (behind (codes "!session ") line) _ named-session
     (or-named hold_of (behind (codes "!hold ") line) _ named-hold
-    (or-named (named Go) (behind (codes "!go ") line) Unknown (λ name. go-by (is_name name) name) tt))
+    (or-named (named Go) (behind (codes "!go ") line) _ (λ name. go-by (is_name name) name) (named-word line)))
 
 kind-by : (b : Bool) (line : List ℕ) → IsNamed (cond b (directive_of line) Statement)
 kind-by true line = named-directive line
@@ -77,6 +85,8 @@ able-after standing item Statement is able = record { current = able.current; pe
 able-after standing item (Session name) is able = record { current = is; pending = able.pending }
 able-after standing item (Hold stage) is able = record { current = able.current; pending = is }
 able-after standing item (Go name) is able = record { current = able.current; pending = able.pending }
+able-after standing item Compact is able = able
+able-after standing item Clean is able = able
 able-after standing item Unknown is able = able
 
 fine-action : (standing : Standing) (item : Item) (kind : Kind) → is_faulty standing item kind ≡ false → IsAble standing
@@ -88,6 +98,8 @@ fine-action standing item Statement e able =
 fine-action standing item (Session name) e able = (tt, tt)
 fine-action standing item (Hold stage) e able = tt
 fine-action standing item (Go name) e able = (tt, tt)
+fine-action standing item Compact e able = (tt, tt)
+fine-action standing item Clean e able = (tt, tt)
 fine-action standing item Unknown e able = tt
 
 all-append : (xs ys : List Action) → AllByRecursion IsFine xs → AllByRecursion IsFine ys → AllByRecursion IsFine (xs ++ ys)

@@ -252,6 +252,31 @@ pub all-true : (before more : List Entry) (a : ℕ) (helds : List Held) → AllF
     → AllByRecursion (IsTrulyHeldIn before) helds → AllByRecursion (IsTrulyHeldIn (before ++ more)) helds
 all-true before more a helds fit of_it apart each = stay-so IsTrulyHeldIn a (truly-one a) before more helds fit of_it apart each
 
+-- ---- behind entries of nobody
+
+one-unmoved : (before more : List Entry) (held : Held) → AllFitting (before ++ more) → AreNotOf held.paused.way.txn.0 more → IsHeldIn before held
+    → IsHeldIn (before ++ more) held
+one-unmoved before more held fit alone (inl is) = inl (held-stays before more held.paused fit alone is)
+one-unmoved before more held fit alone (inr stopped) = inr (stopped-stays before more held.paused.way.txn.0 stopped)
+
+one-unmoved-truly : (before more : List Entry) (held : Held) → AllFitting (before ++ more) → AreNotOf held.paused.way.txn.0 more
+    → IsTrulyHeldIn before held → IsTrulyHeldIn (before ++ more) held
+one-unmoved-truly before more held fit alone (inl is) = inl (truly-stays before more held.paused fit alone is)
+one-unmoved-truly before more held fit alone (inr stopped) = inr (stopped-stays before more held.paused.way.txn.0 stopped)
+
+-- they leave each held
+pub all-unmoved : (before more : List Entry) (helds : List Held) → AllFitting (before ++ more) → ((txn : ℕ) → AreNotOf txn more)
+    → AllByRecursion (IsHeldIn before) helds → AllByRecursion (IsHeldIn (before ++ more)) helds
+all-unmoved before more [] fit alone each = tt
+all-unmoved before more (held ∷ helds) fit alone each =
+    (one-unmoved before more held fit (alone held.paused.way.txn.0) each.0, all-unmoved before more helds fit alone each.1)
+
+pub all-unmoved-truly : (before more : List Entry) (helds : List Held) → AllFitting (before ++ more) → ((txn : ℕ) → AreNotOf txn more)
+    → AllByRecursion (IsTrulyHeldIn before) helds → AllByRecursion (IsTrulyHeldIn (before ++ more)) helds
+all-unmoved-truly before more [] fit alone each = tt
+all-unmoved-truly before more (held ∷ helds) fit alone each =
+    (one-unmoved-truly before more held fit (alone held.paused.way.txn.0) each.0, all-unmoved-truly before more helds fit alone each.1)
+
 -- ---- each has a number that was given
 
 there-some : (o : Option Transaction) (P : Transaction → Type 0) → IsSomeAnd o P → (t : Transaction) × (o ≡ Some t)

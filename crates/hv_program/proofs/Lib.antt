@@ -5,6 +5,11 @@ pub mod Counted
 pub mod OwnEntries
 pub mod Acting
 pub mod Sessions
+pub mod Besides
+pub mod Passed
+pub mod Worked
+pub mod Leaving
+pub mod Leaves
 pub mod Unasked
 pub mod Turns
 pub mod CutOpenings

@@ -11,7 +11,7 @@ use Rattle.hv_script.specs.Script.{bytes_line, earlier, front}
 use Rattle.hv_history.specs.declared.entry.Entry.{Entry}
 use Rattle.hv_script.specs.declared.actions.Action.{Action}
 use Rattle.hv_script.specs.declared.kinds.Kind.{Kind}
-use Rattle.hv_script.specs.declared.kinds.Kind.TheVariants.{Statement, Session, Hold, Go, Unknown}
+use Rattle.hv_script.specs.declared.kinds.Kind.TheVariants.{Statement, Session, Hold, Go, Compact, Clean, Unknown}
 use Rattle.hv_script.specs.declared.standing.Pending.{Pending}
 use Rattle.hv_script.specs.declared.standing.Held.{Held as Keeps}
 use Rattle.hv_script.specs.Kinds.{kind_of}
@@ -233,6 +233,10 @@ item-settles start book before now place item (Hold stage) rest output refused o
     record { between = before; output = output; refused = refused; are_done = done; settles = h }
 item-settles start book before now place item (Go name) rest output refused ok done h =
     record { between = done.0; output = done.2; refused = done.4; are_done = done.6; settles = released start book before done.0 name place.held _ done.1 done.3 refl done.5 h }
+item-settles start book before now place item Compact rest output refused ok done h =
+    record { between = done.0; output = done.2; refused = done.4; are_done = done.6; settles = subst (Settles place.held) (sym done.5.waiting_same) h }
+item-settles start book before now place item Clean rest output refused ok done h =
+    record { between = done.0; output = done.2; refused = done.4; are_done = done.6; settles = subst (Settles place.held) (sym done.5.waiting_same) h }
 item-settles start book before now place item Unknown rest output refused ok done h = let no_ : true ≡ false = ok in cc
 
 -- an item's action is in turn, where those behind it are
@@ -252,6 +256,10 @@ item-in-turn start book before now place item (Session name) rest output refused
 item-in-turn start book before now place item (Hold stage) rest output refused ok done h next = next before output refused done h
 item-in-turn start book before now place item (Go name) rest output refused ok done h next =
     (tt, next done.0 done.2 done.4 done.6 (released start book before done.0 name place.held _ done.1 done.3 refl done.5 h))
+item-in-turn start book before now place item Compact rest output refused ok done h next =
+    (tt, next done.0 done.2 done.4 done.6 (subst (Settles place.held) (sym done.5.waiting_same) h))
+item-in-turn start book before now place item Clean rest output refused ok done h next =
+    (tt, next done.0 done.2 done.4 done.6 (subst (Settles place.held) (sym done.5.waiting_same) h))
 item-in-turn start book before now place item Unknown rest output refused ok done h next = let no_ : true ≡ false = ok in cc
 
 -- ---- all of them

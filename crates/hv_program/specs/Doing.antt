@@ -22,6 +22,8 @@ use Rattle.hv_session.specs.Faults.{IsFaultLine}
 use Rattle.hv_session.specs.hv_beginning.specs.hv_steps.specs.hv_table_reader.specs.hv_acts.specs.hv_telling.specs.hv_house.specs.Asking.{CanBegin}
 use Rattle.hv_session.specs.Taking.{StartsIfItCan, EndsBefore, HoldsAt}
 use Rattle.hv_program.specs.Change.{Change, from_to}
+use Rattle.hv_program.specs.Background.{IsCompacting, IsCleaning, Compacts, Cleans}
+use Rattle.hv_program.specs.Beside.{AddsBeside}
 
 -- ---- where a run stands between two actions
 
@@ -145,6 +147,15 @@ ReleasesOne books before now name None output refused = (now ≡ before) × (out
 ReleasesOne books before now name (Some waiting) output refused =
     GoesOnHeld books before.book now.book waiting.txn output refused × (now.waiting ≡ without name before.waiting)
 
+-- Entries of such a kind were added, just these, and nothing else happened: those that wait wait on, and nothing is printed.
+pub record DoneBeside (Of : Entry → Type 0) (Adds : List Entry → List Entry → Type 0) (before now : Standing)
+    (output : List ℕ) (refused : Bool) : Type 0 where
+  pub beside : AddsBeside Of before.book now.book
+  pub adds : Adds before.book now.book
+  pub waiting_same : now.waiting ≡ before.waiting
+  pub nothing : output ≡ []
+  pub accepted : refused ≡ false
+
 abbrev pub session_line : List ℕ → List ℕ
 session_line name = line (codes "-- session " ++ name)
 
@@ -157,6 +168,8 @@ IsDone books before now (action.Run statement) output refused =
     ⊎ IsPutOff books (from_to before now) (asking_of statement) statement.hold output refused
 IsDone books before now (action.Release session) output refused =
     ReleasesOne books before now session.name (waiting_in session.name before.waiting) output refused
+IsDone books before now action.Compact output refused = DoneBeside IsCompacting Compacts before now output refused
+IsDone books before now action.Clean output refused = DoneBeside IsCleaning Cleans before now output refused
 
 -- and by several, one after another
 abbrev pub AreDone : Change (List Entry) → Standing → Standing → List Action → List ℕ → Bool → Type 0
@@ -173,6 +186,8 @@ abbrev pub IsInTurn : Standing → Action → Type 0
 IsInTurn before (action.Announce session) = Unit {0}
 IsInTurn before (action.Run statement) = waiting_in statement.session.name before.waiting ≡ None
 IsInTurn before (action.Release session) = Unit {0}
+IsInTurn before action.Compact = Unit {0}
+IsInTurn before action.Clean = Unit {0}
 
 -- and so it was before each of these actions, as they were done: the last statement of the session had ended
 abbrev pub AreInTurn : (books : Change (List Entry)) (before now : Standing) (actions : List Action) (output : List ℕ)

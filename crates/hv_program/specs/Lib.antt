@@ -1,4 +1,8 @@
+pub use Rattle.hv_clean as hv_clean
+pub use Rattle.hv_compact as hv_compact
 pub mod Change
+pub mod Background
+pub mod Beside
 pub mod Doing
 pub mod Own
 pub mod Keeping

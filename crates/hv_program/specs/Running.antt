@@ -23,6 +23,7 @@ use Rattle.hv_session.specs.Doing.{IsHold}
 use Rattle.hv_program.specs.declared.stop.Stop.{Stop}
 use Rattle.hv_program.specs.declared.stop.Stop.TheVariants as stop
 use Rattle.hv_program.specs.Change.{Change, from_to}
+use Rattle.hv_program.specs.Background.{IsCompacting, IsCleaning}
 use Rattle.hv_program.specs.Doing.{Waiting, Standing, waiting_in, asking_of, IsDone, AreDone}
 use Rattle.hv_program.specs.Own.{Grows}
 
@@ -67,11 +68,22 @@ abbrev pub number_of : Standing → Action → Option ℕ
 number_of standing (action.Announce session) = None
 number_of standing (action.Run statement) = Some (next_number standing.book)
 number_of standing (action.Release session) = option_map txn_of_waiting (waiting_in session.name standing.waiting)
+number_of standing action.Compact = None
+number_of standing action.Clean = None
 
 -- entries of that transaction alone, and none where there is no transaction
 abbrev pub AreOfSome : Option ℕ → List Entry → Type 0
 AreOfSome None events = events ≡ []
 AreOfSome (Some txn) events = AreOf txn events
+
+-- or entries of compactions, or of cleaning, where the action is that
+abbrev pub AreOfPass : Action → List Entry → Type 0
+AreOfPass action.Compact events = AllByRecursion IsCompacting events
+AreOfPass action.Clean events = AllByRecursion IsCleaning events
+AreOfPass other events = ⊥
+
+abbrev pub AreOfAction : Standing → Action → List Entry → Type 0
+AreOfAction before action events = AreOfSome (number_of before action) events ⊎ AreOfPass action events
 
 -- none of them ends that transaction
 abbrev pub AreNoEnds : Option ℕ → List Entry → Type 0
@@ -83,11 +95,12 @@ abbrev pub OpensOf : Action → List Entry → Type 0
 OpensOf (action.Run statement) added = BegunBy (asking_of statement) added
 OpensOf other added = Unit {0}
 
--- what was noted of an action fits behind the book, is legal where that is told, and doesn't end its transaction
+-- what was noted of an action fits behind the book, is legal where that is told, and doesn't end its transaction; of a pass it is entries of
+-- that pass alone
 pub record IsPartly (Told : Type 0) (before : Standing) (action : Action) (now : List Entry) : Type 0 where
   pub added : List Entry
   pub book : now ≡ before.book ++ added
-  pub of_it : AreOfSome (number_of before action) added
+  pub of_it : AreOfAction before action added
   pub fits : AllFit profile (state_of before.book) added
   pub legal : Told → IsLegalFrom profile (state_of before.book) added
   pub unended : AreNoEnds (number_of before action) added
@@ -97,7 +110,7 @@ pub record IsPartly (Told : Type 0) (before : Standing) (action : Action) (now :
 pub record IsHalfway (before : Standing) (action : Action) (now : List Entry) : Type 0 where
   pub added : List Entry
   pub book : now ≡ before.book ++ added
-  pub of_it : AreOfSome (number_of before action) added
+  pub of_it : AreOfAction before action added
   pub legal : IsLegalFrom profile (state_of before.book) added
   pub unended : AreNoEnds (number_of before action) added
   pub opens : OpensOf action added
@@ -126,13 +139,20 @@ pub record AreBeginning (before : Standing) (statement : Statement) (book furthe
   pub fits : BeginFits before.book (asking_of statement)
   pub further_is : further ≡ beginning_of before.book (asking_of statement)
 
-abbrev pub BeginsOne : Standing → Action → List Entry → List Entry → Type 0
-BeginsOne before (action.Announce session) book further = ⊥
-BeginsOne before (action.Run statement) book further = AreBeginning before statement book further
-BeginsOne before (action.Release session) book further = ⊥
+-- or one of a compaction, or of cleaning
+pub record IsFurtherBeside (IsBeside : Entry → Type 0) (further : List Entry) : Type 0 where
+  pub each : AllByRecursion IsBeside further
+  pub few : length further ≤ 1
+
+abbrev pub FollowsOf : Standing → Action → List Entry → List Entry → Type 0
+FollowsOf before (action.Announce session) book further = ⊥
+FollowsOf before (action.Run statement) book further = AreBeginning before statement book further
+FollowsOf before (action.Release session) book further = ⊥
+FollowsOf before action.Compact book further = IsFurtherBeside IsCompacting further
+FollowsOf before action.Clean book further = IsFurtherBeside IsCleaning further
 
 abbrev pub AreFurther : Standing → Action → List Entry → List Entry → Type 0
-AreFurther before action book further = IsFurther before action book further ⊎ BeginsOne before action book further
+AreFurther before action book further = IsFurther before action book further ⊎ FollowsOf before action book further
 
 -- The journal reads to the book, and where the store failed, to the book or to the book and such further entries.
 abbrev pub LeavesFurther : HouseFault → Option Store → Standing → Action → List Entry → Type 0

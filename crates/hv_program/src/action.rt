@@ -1,4 +1,4 @@
-ghost use Rattle.std.specs.Prelude.{◌≡◌, ◌≤◌, [], None, false, IfOk, IfErr};
+ghost use Rattle.std.specs.Prelude.{◌≡◌, ◌≤◌, [], None, false, length, IfOk, IfErr};
 ghost use Rattle.hv_actor.specs.Acting.{IsLater};
 ghost use Rattle.hv_session.specs.hv_beginning.specs.hv_steps.specs.hv_table_reader.specs.hv_acts.specs.Told.{seen_in};
 ghost use Rattle.hv_script.specs.declared.actions.Action.TheVariants as action;
@@ -13,11 +13,13 @@ ghost use Rattle.hv_session.specs.Taking.{asked_of, IsKeptIn, IsTakenAs};
 ghost use Rattle.hv_session.specs.Ways.{StopsTaken};
 ghost use Rattle.hv_program.specs.Change.{from_to};
 ghost use Rattle.hv_program.specs.Doing.{asking_of, session_line};
+ghost use Rattle.hv_program.specs.Beside.{quietly};
 ghost use Rattle.hv_program.specs.Keeping.{standing_of, AreHeld, AreTrulyHeld, CanAllFinish};
 ghost use Rattle.hv_program.specs.Running.{Acts, IsFine, IsShort, Stops};
 ghost use Rattle.hv_program.specs.Stops.{IsShutFor};
 
 use crate::alone::{finish_alone, take_alone};
+use crate::background::{clean, compact};
 use crate::held::{Held, keep, let_go};
 use hv_base::{Duplicate, List, NoMemory, Text};
 use hv_script::{Action, Session, Statement};
@@ -51,6 +53,16 @@ fn nothing(alloc: Global) -> Reply
         text: List::from_vec(Vec::new(alloc)),
         refused: false,
         ended: None,
+    }
+}
+
+/// The reply of a pass, which prints nothing, where it was done.
+fn quietly(alloc: Global, passed: Result<(), HouseFault>) -> Result<Reply, HouseFault>
+    ensures { result ≡ quietly passed }
+{
+    match passed {
+        Ok(()) => Ok(nothing(alloc)),
+        Err(why) => Err(why),
     }
 }
 
@@ -122,6 +134,7 @@ fn run_statement<D: Shelf + Drop>(
         (from_to (D.faults house.old.house.shelf) (D.faults house.new.house.shelf))
         (standing_of house.old.house held.old.items) (standing_of house.new.house held.new.items)
         (action.Run statement.now) reply.text reply.refused) }
+    ensures later { IfOk result (λ _. IsLater D.faults (seen_in house.old) (seen_in house.new)) }
     ensures start { house.new.house.start ≡ house.old.house.start }
     ensures stopped { IfErr result (λ why. Stops (IsToldHouse D.told house.old.house) why
         (D.told house.new.house.shelf)
@@ -162,6 +175,7 @@ fn release<D: Shelf + Drop>(
         (from_to (D.faults house.old.house.shelf) (D.faults house.new.house.shelf))
         (standing_of house.old.house held.old.items) (standing_of house.new.house held.new.items)
         (action.Release session.now) reply.text reply.refused) }
+    ensures later { IfOk result (λ _. IsLater D.faults (seen_in house.old) (seen_in house.new)) }
     ensures start { house.new.house.start ≡ house.old.house.start }
     ensures stopped { IfErr result (λ why. Stops (IsToldHouse D.told house.old.house) why
         (D.told house.new.house.shelf)
@@ -186,6 +200,7 @@ pub fn act<D: Shelf + Drop>(
 ) -> Result<Reply, HouseFault>
     requires whole { IsWhole D.told house.old.house }
     requires hard { ShutsHard D.hard (seen_in house.old) }
+    requires begun { 1 ≤ length (entries_of house.old.house) }
     requires held { AreHeld (entries_of house.old.house) held.old.items }
     requires truly { AreTrulyHeld D.told house.old.house held.old.items }
     requires can { CanAllFinish D.told house.old held.old.items }
@@ -198,6 +213,7 @@ pub fn act<D: Shelf + Drop>(
         (from_to (D.faults house.old.house.shelf) (D.faults house.new.house.shelf))
         (standing_of house.old.house held.old.items) (standing_of house.new.house held.new.items)
         action.now reply.text reply.refused) }
+    ensures later { IfOk result (λ _. IsLater D.faults (seen_in house.old) (seen_in house.new)) }
     ensures start { house.new.house.start ≡ house.old.house.start }
     ensures stopped { IfErr result (λ why. Stops (IsToldHouse D.told house.old.house) why
         (D.told house.new.house.shelf)
@@ -211,5 +227,7 @@ pub fn act<D: Shelf + Drop>(
         Action::Run(statement) => run_statement(alloc, house, held, statement),
         Action::Announce(session) => Ok(announce(alloc, &session.name)?),
         Action::Release(session) => release(alloc, house, held, session),
+        Action::Compact => quietly(alloc, compact(alloc, house)),
+        Action::Clean => quietly(alloc, clean(alloc, house)),
     }
 }

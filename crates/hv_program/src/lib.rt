@@ -1,8 +1,12 @@
 //! The program: its words, its script, and what it asks to be done, one after another.
 #![tactic(auto)]
 
+pub use hv_clean;
+pub use hv_compact;
+
 mod action;
 mod alone;
+mod background;
 mod held;
 mod laws;
 mod program;

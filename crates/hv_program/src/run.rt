@@ -1,4 +1,4 @@
-ghost use Rattle.std.specs.Prelude.{◌≡◌, ◌≤◌, [], ◌∷◌, IfOk, IfErr, IsTrue};
+ghost use Rattle.std.specs.Prelude.{◌≡◌, ◌≤◌, [], ◌∷◌, length, IfOk, IfErr, IsTrue};
 ghost use Rattle.std.specs.List.{AllByRecursion};
 ghost use Rattle.hv_base.specs.Told.{StaysTold};
 ghost use Rattle.hv_session.specs.hv_beginning.specs.hv_steps.specs.hv_table_reader.specs.hv_acts.specs.Told.{seen_in};
@@ -28,6 +28,7 @@ pub fn run<O: Sink, D: Shelf + Drop>(
 ) -> Result<bool, Stop>
     requires whole { IsWhole D.told house.old.house }
     requires hard { ShutsHard D.hard (seen_in house.old) }
+    requires begun { 1 ≤ length (entries_of house.old.house) }
     requires fine { AllByRecursion IsFine actions.now }
     ensures whole { IfOk result (λ _. IsWhole D.told house.new.house) }
     ensures prints { IsToldHouse D.told house.old.house → IfOk result (PrintsAll

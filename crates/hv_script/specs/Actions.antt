@@ -10,11 +10,11 @@ use Rattle.hv_script.specs.declared.items.Item.{Item}
 use Rattle.hv_script.specs.declared.script.ScriptFault.{ScriptFault}
 use Rattle.hv_script.specs.declared.script.ScriptFault.TheVariants.{Refused, NoMemory}
 use Rattle.hv_script.specs.declared.actions.Action.{Action}
-use Rattle.hv_script.specs.declared.actions.Action.TheVariants.{Run, Announce, Release}
+use Rattle.hv_script.specs.declared.actions.Action.TheVariants.{Run, Announce, Release, Compact as Compacting, Clean as Cleaning}
 use Rattle.hv_script.specs.declared.actions.Session.{Session as Named}
 use Rattle.hv_script.specs.declared.actions.Statement.{Statement as Asked}
 use Rattle.hv_script.specs.declared.kinds.Kind.{Kind}
-use Rattle.hv_script.specs.declared.kinds.Kind.TheVariants.{Statement, Session, Hold, Go, Unknown}
+use Rattle.hv_script.specs.declared.kinds.Kind.TheVariants.{Statement, Session, Hold, Go, Compact, Clean, Unknown}
 use Rattle.hv_script.specs.declared.standing.Pending.{Pending}
 use Rattle.hv_script.specs.Kinds.{kind_of, same_text}
 use Rattle.hv_script.specs.Standing.{Standing, first_standing, is_faulty, after, fault_lines}
@@ -39,6 +39,8 @@ action_for standing item Statement = Some (Run (statement_in standing item))
 action_for standing item (Session name) = Some (Announce (session_in standing name))
 action_for standing item (Hold stage) = None
 action_for standing item (Go name) = Some (Release (session_in standing name))
+action_for standing item Compact = Some Compacting
+action_for standing item Clean = Some Cleaning
 action_for standing item Unknown = None
 
 abbrev pub actions_from : Standing → List Item → List Action

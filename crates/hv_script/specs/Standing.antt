@@ -6,7 +6,7 @@ use Rattle.std.specs.Option.{is_some, option_to_list}
 use Rattle.hv_script.specs.declared.items.Item.{Item}
 use Rattle.hv_script.specs.declared.script.TheConstants.{MAX_STATEMENTS, MAX_TEXT}
 use Rattle.hv_script.specs.declared.kinds.Kind.{Kind}
-use Rattle.hv_script.specs.declared.kinds.Kind.TheVariants.{Statement, Session, Hold, Go, Unknown}
+use Rattle.hv_script.specs.declared.kinds.Kind.TheVariants.{Statement, Session, Hold, Go, Compact, Clean, Unknown}
 use Rattle.hv_script.specs.declared.standing.Pending.{Pending}
 use Rattle.hv_script.specs.declared.standing.Held.{Held}
 use Rattle.hv_script.specs.declared.standing.TheConstants.{MAX_SESSIONS}
@@ -46,6 +46,8 @@ is_faulty standing item (Session name) =
     is_some standing.pending || (not (is_seen name standing.sessions) && nat_le MAX_SESSIONS (length standing.sessions))
 is_faulty standing item (Hold stage) = is_some standing.pending
 is_faulty standing item (Go name) = is_some standing.pending || not (is_held name standing.held)
+is_faulty standing item Compact = is_some standing.pending
+is_faulty standing item Clean = is_some standing.pending
 is_faulty standing item Unknown = true
 
 abbrev pub with_session : List ℕ → List (List ℕ) → List (List ℕ)
@@ -66,6 +68,8 @@ after standing item Statement =
 after standing item (Session name) = record standing { sessions = with_session name standing.sessions; current = name }
 after standing item (Hold stage) = record standing { pending = Some (record { stage = stage; line = item.line }) }
 after standing item (Go name) = record standing { held = filter (is_other name) standing.held }
+after standing item Compact = standing
+after standing item Clean = standing
 after standing item Unknown = standing
 
 abbrev pub line_of_pending : Pending → ℕ

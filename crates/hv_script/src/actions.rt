@@ -26,4 +26,8 @@ pub enum Action {
     Announce(Session),
     /// To finish the held statement of a session.
     Release(Session),
+    /// To ask for the compactions that are due, and then to do one.
+    Compact,
+    /// To take away what is no longer needed.
+    Clean,
 }

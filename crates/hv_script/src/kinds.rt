@@ -1,6 +1,6 @@
 ghost use Rattle.std.specs.Prelude.{◌≡◌, ◌-◌, Some, None, length, IfOk, if◌then◌else◌};
 ghost use Rattle.std.specs.List.{suffix_len};
-ghost use Rattle.hv_script.specs.Kinds.{directive_of, hold_of, is_name, is_name_byte, kind_of, trails};
+ghost use Rattle.hv_script.specs.Kinds.{directive_of, hold_of, is_name, is_name_byte, kind_of, trails, word_kind};
 
 use crate::is_directive;
 use hv_base::{NoMemory, Stage, Text};
@@ -19,6 +19,10 @@ pub enum Kind {
     Hold(Stage),
     /// The held statement of this session is finished.
     Go(Text),
+    /// Compactions that are due are asked for, and then one is done.
+    Compact,
+    /// What is no longer needed goes.
+    Clean,
     /// A directive that isn't known.
     Unknown,
 }
@@ -85,6 +89,18 @@ fn hold_before(stage: &[u8]) -> Kind
     }
 }
 
+fn word_kind(word: &[u8]) -> Kind
+    ensures value { result ≡ word_kind word.now }
+{
+    if word == b"!compact".as_slice() {
+        Kind::Compact
+    } else if word == b"!clean".as_slice() {
+        Kind::Clean
+    } else {
+        Kind::Unknown
+    }
+}
+
 /// The directive of a line from which nothing is left to be dropped.
 fn read_directive(alloc: Global, line: &[u8]) -> Result<Kind, NoMemory>
     ensures value { IfOk result (λ kind. kind ≡ directive_of line.now) }
@@ -104,7 +120,7 @@ fn read_directive(alloc: Global, line: &[u8]) -> Result<Kind, NoMemory>
             None => Kind::Unknown,
         });
     }
-    Ok(Kind::Unknown)
+    Ok(word_kind(line))
 }
 
 /// What the item of these bytes is.

@@ -120,6 +120,8 @@ impl Sessions {
             }
             Kind::Hold(_) => self.pending.is_some(),
             Kind::Go(name) => self.pending.is_some() || !holds_session(&self.held, name),
+            Kind::Compact => self.pending.is_some(),
+            Kind::Clean => self.pending.is_some(),
             Kind::Unknown => true,
         }
     }
@@ -168,6 +170,8 @@ impl Sessions {
             Kind::Statement => Ok(Some(Action::Run(self.statement(alloc, item)?))),
             Kind::Session(name) => Ok(Some(Action::Announce(self.session(alloc, name)?))),
             Kind::Go(name) => Ok(Some(Action::Release(self.session(alloc, name)?))),
+            Kind::Compact => Ok(Some(Action::Compact)),
+            Kind::Clean => Ok(Some(Action::Clean)),
             Kind::Hold(_) => Ok(None),
             Kind::Unknown => Ok(None),
         }
@@ -218,6 +222,8 @@ impl Sessions {
                 let_go(&mut self.held, &name);
                 Ok(())
             }
+            Kind::Compact => Ok(()),
+            Kind::Clean => Ok(()),
             Kind::Unknown => Ok(()),
         }
     }

@@ -30,6 +30,8 @@ fn show(out: &mut String, action: &Action) -> Result<(), AllocError> {
             let Session { name, place } = session;
             write!(out, "go {name}/{place}|")
         }
+        Action::Compact => write!(out, "compact|"),
+        Action::Clean => write!(out, "clean|"),
         Action::Run(run) => {
             let Session { name, place } = &run.session;
             write!(

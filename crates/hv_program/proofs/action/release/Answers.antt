@@ -1,4 +1,6 @@
 use Rattle.std.proofs.Common.{sym, ◌∙◌}
+use Rattle.hv_actor.specs.Rows.{later_itself}
+use Rattle.hv_session.specs.hv_beginning.specs.hv_steps.specs.hv_table_reader.specs.hv_acts.specs.Told.{seen_in}
 use Rattle.hv_program.proofs.Acting.{let-go-true, released-held, released-truly, released-acts, released-stops, none-held, none-truly, none-acts}
 use Rattle.hv_program.proofs.Sessions.{let-go-can, released-can, none-can}
 use Rattle.hv_program.proofs.action.release.Goals as goal
@@ -51,3 +53,9 @@ returns-in-None-clause-truly g c =
 pub returns-in-None-clause-acted : goal.returns-in-None-clause-acted
 returns-in-None-clause-acted g c = λ is.
     none-acts _ _ _ _ c.args.session.now c.nothing.result (sym c.let_go.ensures.found ∙ c.in-None.is) c.let_go.ensures.left c.nothing.ensures
+
+pub returns-in-Some-clause-later : goal.returns-in-Some-clause-later
+returns-in-Some-clause-later g c = c.finish_alone.ensures.later
+
+pub returns-in-None-clause-later : goal.returns-in-None-clause-later
+returns-in-None-clause-later g c = later_itself g.D.Shelf.faults (seen_in c.args.house.now)

@@ -75,3 +75,9 @@ returns-in_err-reserve-clause-shut g c =
 pub returns-in_err-found-clause-shut : goal.returns-in_err-found-clause-shut
 returns-in_err-found-clause-shut g c =
     passed_up c.from_residual-in_err-found.result c.in_err-found.field-0.0 (IsShutFor c.take.new.house) c.from_residual-in_err-found.ensures.1 c.in_err-found.ensures.shut
+
+pub returns-in-Replied-clause-later : goal.returns-in-Replied-clause-later
+returns-in-Replied-clause-later g c = c.in_ok-found.ensures.later
+
+pub returns-in-Kept-clause-later : goal.returns-in-Kept-clause-later
+returns-in-Kept-clause-later g c = c.in_ok-found.ensures.later

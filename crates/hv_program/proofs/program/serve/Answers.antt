@@ -1,5 +1,5 @@
 use Rattle.hv_base.proofs.ToldLemmas.{stays_same}
-use Rattle.std.proofs.Common.{◌≤◌, inl, ap, refl, ◌∙◌, arith}
+use Rattle.std.proofs.Common.{◌≤◌, inl, length, ap, refl, ◌∙◌, arith}
 use Rattle.hv_history.specs.Legal.{profile}
 use Rattle.hv_session.specs.hv_beginning.specs.hv_steps.specs.hv_table_reader.specs.hv_acts.specs.hv_telling.proofs.Opening.{opened-is-whole}
 use Rattle.hv_session.specs.hv_beginning.specs.hv_steps.specs.hv_table_reader.specs.hv_acts.specs.hv_telling.specs.hv_house.proofs.Hards.{opened_shuts}
@@ -11,12 +11,18 @@ use Rattle.hv_session.specs.hv_beginning.specs.hv_steps.specs.hv_table_reader.sp
 use Rattle.hv_session.specs.hv_beginning.specs.hv_steps.specs.hv_table_reader.specs.hv_acts.specs.hv_telling.specs.hv_house.specs.Booting.{Opens}
 use Rattle.hv_session.specs.hv_beginning.specs.hv_steps.specs.hv_table_reader.specs.hv_acts.specs.hv_telling.specs.Telling.{IsWhole}
 use Rattle.hv_program.proofs.Sessions.{again}
+use Rattle.hv_program.proofs.Leaving.{opens-some}
 use Rattle.hv_program.proofs.program.serve.Goals as goal
 
 pub run-ran-requires-clause-whole : goal.run-ran-requires-clause-whole
 run-ran-requires-clause-whole g c =
     again c.in-Ok.house c.new-told.result.house c.new-told.ensures.house (λ h. IsWhole g.D.Shelf.told h)
     (opened-is-whole g.D.Shelf.told c.args.shelf c.in-Ok.house c.in-Ok.ensures.ready c.in-Ok.ensures.opened c.in-Ok.ensures.over c.in-Ok.ensures.whole)
+
+pub run-ran-requires-clause-begun : goal.run-ran-requires-clause-begun
+run-ran-requires-clause-begun g c =
+    again c.in-Ok.house c.new-told.result.house c.new-told.ensures.house (λ h. 1 ≤ length (entries_of h))
+    (opens-some (g.D.Shelf.told c.args.shelf) (entries_of c.in-Ok.house) c.in-Ok.ensures.opened)
 
 pub new-told-requires : goal.new-told-requires
 new-told-requires g c = record {

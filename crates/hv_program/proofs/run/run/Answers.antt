@@ -6,6 +6,7 @@ use Rattle.hv_program.specs.declared.stop.Stop.TheVariants as stop
 use Rattle.hv_program.specs.Keeping.{standing_of}
 use Rattle.hv_program.specs.Stops.{ShutsFor}
 use Rattle.hv_program.proofs.Blaming.{passed_up, shut-passed}
+use Rattle.hv_program.proofs.Leaving.{later-some}
 use Rattle.hv_program.proofs.Turns.{Prints-next, Prints-all, Halts-stopped, Halts-cut, stops-ends}
 use Rattle.hv_program.proofs.run.run.Goals as goal
 
@@ -22,6 +23,7 @@ loop-action-preserved g c = record {
       (c.in_ok-reply.ensures.acted (told-stays g.D.Shelf.told c.args.house.now.house c.loop-action.house.house c.loop-action.invariant.start is));
   start = c.in_ok-reply.ensures.start ∙ c.loop-action.invariant.start;
   hard = c.in_ok-reply.ensures.hard;
+  begun = later-some g.D.Shelf.faults c.loop-action.house c.act.new.house c.in_ok-reply.ensures.later c.loop-action.invariant.begun;
   heard = stays_stays _ _ _ c.loop-action.invariant.heard (stays_by _ _ _ c.in_ok-write_all.ensures.done);
   later_store = omega (arith, c.loop-action.invariant.later_store, c.in_ok-reply.ensures.cause.later);
   later_sink = omega (arith, c.loop-action.invariant.later_sink, c.in_ok-write_all.ensures.cause.later);

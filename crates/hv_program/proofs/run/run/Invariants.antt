@@ -1,4 +1,4 @@
-use Rattle.std.proofs.Common.{◌≡◌, ◌≤◌, take}
+use Rattle.std.proofs.Common.{◌≡◌, ◌≤◌, length, take}
 use Rattle.hv_base.specs.Told.{StaysTold}
 use Rattle.hv_session.specs.hv_beginning.specs.hv_steps.specs.hv_table_reader.specs.hv_acts.specs.Told.{seen_in}
 use Rattle.hv_session.specs.hv_beginning.specs.hv_steps.specs.hv_table_reader.specs.hv_acts.specs.hv_telling.specs.hv_house.specs.House.{entries_of}
@@ -19,6 +19,7 @@ invariant-loop-action g l = record {
       (standing_of l.house.house l.held.items) (take l.action-index l.actions) (from_to (g.O.Sink.written l.initial.sink) (g.O.Sink.written l.sink)) l.refused;
   start : l.house.house.start ≡ l.initial.house.house.start;
   hard : ShutsHard g.D.Shelf.hard (seen_in l.house);
+  begun : 1 ≤ length (entries_of l.house.house);
   heard : StaysTold (g.O.Sink.written l.initial.sink) (g.O.Sink.written l.sink);
   later_store : g.D.Shelf.faults l.initial.house.house.shelf ≤ g.D.Shelf.faults l.house.house.shelf;
   later_sink : g.O.Sink.faults l.initial.sink ≤ g.O.Sink.faults l.sink;
