@@ -165,7 +165,7 @@ fn window_after(
         let session = match action {
             Action::Release(session) => session,
             // They print nothing.
-            Action::Compact | Action::Clean => continue,
+            Action::Compact | Action::Clean | Action::Barrier => continue,
             Action::Run(_) | Action::Announce(_) => break,
         };
         if session.place == place {
@@ -277,7 +277,7 @@ impl Owners {
                 Ok(())
             }
             // They print nothing.
-            Action::Compact | Action::Clean => Ok(()),
+            Action::Compact | Action::Clean | Action::Barrier => Ok(()),
         }
     }
 }

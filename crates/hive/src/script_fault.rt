@@ -13,6 +13,8 @@ enum Directive<'a> {
     Session(&'a [u8]),
     Hold,
     Go(&'a [u8]),
+    /// One that leaves the sessions as they are.
+    Plain,
     Unknown,
 }
 
@@ -64,11 +66,16 @@ fn is_hold(line: &[u8]) -> bool {
         || line == b"!hold commit".as_slice()
 }
 
+fn is_plain(line: &[u8]) -> bool {
+    line == b"!compact".as_slice() || line == b"!clean".as_slice() || line == b"!barrier".as_slice()
+}
+
 fn read_directive(line: &[u8]) -> Directive<'_> {
     match (line.strip_prefix(b"!session "), line.strip_prefix(b"!go ")) {
         (Some(name), _) if is_name(name) => Directive::Session(name),
         (_, Some(name)) if is_name(name) => Directive::Go(name),
         _ if is_hold(line) => Directive::Hold,
+        _ if is_plain(line) => Directive::Plain,
         _ => Directive::Unknown,
     }
 }
@@ -129,7 +136,7 @@ impl<'a> Sessions<'a> {
             }
             Directive::Hold => self.pending = Some(line),
             Directive::Go(name) => self.held.retain(|held| held.session != name),
-            Directive::Unknown => {}
+            Directive::Plain | Directive::Unknown => {}
         }
         Ok(())
     }

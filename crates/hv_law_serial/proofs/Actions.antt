@@ -109,6 +109,7 @@ held-of (Some stage.Replied) txn added h = absurd h
 pub grows-one : (start book : List Entry) (before now : Standing) (action : Action) (output : List ℕ) (refused : Bool)
     → IsDone (from_to start book) before now action output refused → Grown before.book now.book
 grows-one start book before now (action.Announce session) output refused done = same-grown before.book now.book (ap (λ (s : Standing). s.book) done.0)
+grows-one start book before now action.Barrier output refused done = same-grown before.book now.book (ap (λ (s : Standing). s.book) done.0)
 grows-one start book before now (action.Run statement) output refused (inl replies) = by replies.goes
   where
     by : RepliesAtOnce (from_to start book) (from_to before.book now.book) (asking_of statement) statement.hold output refused → Grown before.book now.book
@@ -198,6 +199,7 @@ settled-beside before now grown waiting settled = record {
 pub settled-one : (start book : List Entry) (before now : Standing) (action : Action) (output : List ℕ) (refused : Bool)
     → IsDone (from_to start book) before now action output refused → IsSettled before → IsSettled now
 settled-one start book before now (action.Announce session) output refused done settled = settled-same before now done.0 settled
+settled-one start book before now action.Barrier output refused done settled = settled-same before now done.0 settled
 settled-one start book before now (action.Run statement) output refused (inl replies) settled =
     settled-beside before now (grows-one start book before now (action.Run statement) output refused (inl replies)) replies.waiting_same settled
 settled-one start book before now (action.Run statement) output refused (inr off) settled =

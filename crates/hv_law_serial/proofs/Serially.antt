@@ -23,6 +23,7 @@ serially-one : (start book : List Entry) (before between : Standing) (first : Ac
     → AddsSteadily before.book between.book → AddsNoFailure before.book between.book → (reply ≡ memory_line → ⊥) → PassesWhole before between first
     → between ≡ serial_one before first
 serially-one start book before between (action.Announce session) reply refused done settled legal steady unfailed in_memory pass = done.0
+serially-one start book before between action.Barrier reply refused done settled legal steady unfailed in_memory pass = done.0
 serially-one start book before between (action.Run statement) reply refused (inl replies) settled legal steady unfailed in_memory pass =
     at-once start book before between (asking_of statement) statement.hold legal steady reply refused replies in_memory
 serially-one start book before between (action.Run statement) reply refused (inr off) settled legal steady unfailed in_memory pass =

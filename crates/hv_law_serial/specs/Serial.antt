@@ -70,6 +70,7 @@ released before name (Some waiting) =
 
 abbrev pub serial_one : Standing → Action → Standing
 serial_one before (action.Announce session) = before
+serial_one before action.Barrier = before
 serial_one before (action.Run statement) = taken_up before (asking_of statement) statement.hold
 serial_one before (action.Release session) = released before session.name (waiting_in session.name before.waiting)
 serial_one before action.Compact = record { book = compacted before.book; waiting = before.waiting }

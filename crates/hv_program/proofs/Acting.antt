@@ -358,6 +358,15 @@ acts-nothing low high book helds session none = record {
       (ap (λ (hs : List Held). record { book = book; waiting = map waiting_of hs }) (none-left session.name helds none), refl, refl);
 }
 
+-- a barrier is nothing to a run
+pub acts-barrier : (low high : ℕ) (book : List Entry) (helds : List Held) (reply : Reply) → reply ≡ record { text = []; refused = false; ended = None }
+    → Acts (from_to low high) (record { book = book; waiting = map waiting_of helds }) (record { book = book; waiting = map waiting_of helds })
+    action.Barrier reply.text reply.refused
+acts-barrier low high book helds reply said = record {
+  grows = grows-none low high book;
+  done = λ start behind. (refl, ap (λ (r : Reply). r.text) said, ap (λ (r : Reply). r.refused) said);
+}
+
 -- ---- where the run stops
 
 none-of : (number : Option ℕ) → AreOfSome number []
@@ -366,6 +375,7 @@ none-of (Some txn) = tt
 
 opens-none : (act : Action) → OpensOf act []
 opens-none (action.Announce session) = tt
+opens-none action.Barrier = tt
 opens-none (action.Run statement) = tt
 opens-none (action.Release session) = tt
 opens-none action.Compact = tt

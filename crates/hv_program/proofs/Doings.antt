@@ -78,6 +78,7 @@ released-more start book more before now name (Some waiting) output refused h = 
 done-more : (start book more : List Entry) (before now : Standing) (act : Action) (output : List ℕ) (refused : Bool)
     → IsDone (from_to start book) before now act output refused → IsDone (from_to start (book ++ more)) before now act output refused
 done-more start book more before now (action.Announce session) output refused h = h
+done-more start book more before now action.Barrier output refused h = h
 done-more start book more before now (action.Run statement) output refused (inl h) = inl (record {
   goes = at-once-more start book more before.book now.book (asking_of statement) statement.hold output refused h.goes;
   waiting_same = h.waiting_same;
@@ -145,6 +146,7 @@ pub later-done : (start book : List Entry) (before now : Standing) (act : Action
     → AllByRecursion (IsLater start) before.waiting → IsDone (from_to start book) before now act output refused
     → AllByRecursion (IsLater start) now.waiting
 later-done start book before now (action.Announce session) output refused all h = subst (λ (s : Standing). AllByRecursion (IsLater start) s.waiting) (sym h.0) all
+later-done start book before now action.Barrier output refused all h = subst (λ (s : Standing). AllByRecursion (IsLater start) s.waiting) (sym h.0) all
 later-done start book before now (action.Run statement) output refused all (inl h) = subst (AllByRecursion (IsLater start)) (sym h.waiting_same) all
 later-done start book before now (action.Run statement) output refused all (inr h) =
     subst (AllByRecursion (IsLater start)) (sym h.waits) (all-last (IsLater start) before.waiting _ all h.goes.own)

@@ -9,7 +9,7 @@ use Rattle.hv_script.specs.Script.{begins_directive, front}
 use Rattle.hv_script.specs.declared.actions.Action.{Action}
 use Rattle.hv_base.specs.declared.gate.Stage.TheVariants.{Start, Read, Commit}
 use Rattle.hv_script.specs.declared.kinds.Kind.{Kind}
-use Rattle.hv_script.specs.declared.kinds.Kind.TheVariants.{Statement, Session, Hold, Go, Compact, Clean, Unknown}
+use Rattle.hv_script.specs.declared.kinds.Kind.TheVariants.{Statement, Session, Hold, Go, Compact, Clean, Barrier, Unknown}
 use Rattle.hv_script.specs.Kinds.{behind, directive_of, hold_of, is_name, is_name_byte, kind_of, named, or_else, same_text, without_trail, word_kind}
 use Rattle.hv_script.specs.Standing.{Standing, first_standing, is_faulty, is_held, after}
 use Rattle.hv_script.specs.Actions.{action_for, actions_from, actions_of, stage_of_pending}
@@ -49,13 +49,14 @@ hold-by false false false = tt
 named-hold : (stage : List ℕ) → IsNamed (hold_of stage)
 named-hold stage = hold-by (same_text stage (codes "start")) (same_text stage (codes "read")) (same_text stage (codes "commit"))
 
-word-by : (compact clean : Bool) → IsNamed (cond compact Compact (cond clean Clean Unknown))
-word-by true clean = tt
-word-by false true = tt
-word-by false false = tt
+word-by : (compact clean barrier : Bool) → IsNamed (cond compact Compact (cond clean Clean (cond barrier Barrier Unknown)))
+word-by true clean barrier = tt
+word-by false true barrier = tt
+word-by false false true = tt
+word-by false false false = tt
 
 named-word : (word : List ℕ) → IsNamed (word_kind word)
-named-word word = word-by (same_text word (codes "!compact")) (same_text word (codes "!clean"))
+named-word word = word-by (same_text word (codes "!compact")) (same_text word (codes "!clean")) (same_text word (codes "!barrier"))
 
 or-named : (make : List ℕ → Kind) (found : Option (List ℕ)) (other : Kind) → ((rest : List ℕ) → IsNamed (make rest)) → IsNamed other → IsNamed (or_else make found other)
 or-named make None other each rest = rest
@@ -87,6 +88,7 @@ able-after standing item (Hold stage) is able = record { current = able.current;
 able-after standing item (Go name) is able = record { current = able.current; pending = able.pending }
 able-after standing item Compact is able = able
 able-after standing item Clean is able = able
+able-after standing item Barrier is able = able
 able-after standing item Unknown is able = able
 
 fine-action : (standing : Standing) (item : Item) (kind : Kind) → is_faulty standing item kind ≡ false → IsAble standing
@@ -100,6 +102,7 @@ fine-action standing item (Hold stage) e able = tt
 fine-action standing item (Go name) e able = (tt, tt)
 fine-action standing item Compact e able = (tt, tt)
 fine-action standing item Clean e able = (tt, tt)
+fine-action standing item Barrier e able = (tt, tt)
 fine-action standing item Unknown e able = tt
 
 all-append : (xs ys : List Action) → AllByRecursion IsFine xs → AllByRecursion IsFine ys → AllByRecursion IsFine (xs ++ ys)

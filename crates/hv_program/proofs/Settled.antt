@@ -11,7 +11,7 @@ use Rattle.hv_script.specs.Script.{bytes_line, earlier, front}
 use Rattle.hv_history.specs.declared.entry.Entry.{Entry}
 use Rattle.hv_script.specs.declared.actions.Action.{Action}
 use Rattle.hv_script.specs.declared.kinds.Kind.{Kind}
-use Rattle.hv_script.specs.declared.kinds.Kind.TheVariants.{Statement, Session, Hold, Go, Compact, Clean, Unknown}
+use Rattle.hv_script.specs.declared.kinds.Kind.TheVariants.{Statement, Session, Hold, Go, Compact, Clean, Barrier, Unknown}
 use Rattle.hv_script.specs.declared.standing.Pending.{Pending}
 use Rattle.hv_script.specs.declared.standing.Held.{Held as Keeps}
 use Rattle.hv_script.specs.Kinds.{kind_of}
@@ -229,6 +229,8 @@ item-settles start book before now place item Statement rest output refused ok d
     record { between = done.0; output = done.2; refused = done.4; are_done = done.6; settles = run-settles start book before done.0 place item done.1 done.3 free done.5 h }
 item-settles start book before now place item (Session name) rest output refused ok done h =
     record { between = done.0; output = done.2; refused = done.4; are_done = done.6; settles = subst (λ (s : Standing). Settles place.held s.waiting) (sym done.5.0) h }
+item-settles start book before now place item Barrier rest output refused ok done h =
+    record { between = done.0; output = done.2; refused = done.4; are_done = done.6; settles = subst (λ (s : Standing). Settles place.held s.waiting) (sym done.5.0) h }
 item-settles start book before now place item (Hold stage) rest output refused ok done h =
     record { between = before; output = output; refused = refused; are_done = done; settles = h }
 item-settles start book before now place item (Go name) rest output refused ok done h =
@@ -252,6 +254,8 @@ item-in-turn start book before now place item Statement rest output refused ok d
       next done.0 done.2 done.4 done.6 (run-settles start book before done.0 place item done.1 done.3 free done.5 h),
     )
 item-in-turn start book before now place item (Session name) rest output refused ok done h next =
+    (tt, next done.0 done.2 done.4 done.6 (subst (λ (s : Standing). Settles place.held s.waiting) (sym done.5.0) h))
+item-in-turn start book before now place item Barrier rest output refused ok done h next =
     (tt, next done.0 done.2 done.4 done.6 (subst (λ (s : Standing). Settles place.held s.waiting) (sym done.5.0) h))
 item-in-turn start book before now place item (Hold stage) rest output refused ok done h next = next before output refused done h
 item-in-turn start book before now place item (Go name) rest output refused ok done h next =

@@ -163,6 +163,7 @@ session_line name = line (codes "-- session " ++ name)
 abbrev pub IsDone : Change (List Entry) → Standing → Standing → Action → List ℕ → Bool → Type 0
 IsDone books before now (action.Announce session) output refused = (now ≡ before) × (output ≡ session_line session.name)
     × (refused ≡ false)
+IsDone books before now action.Barrier output refused = (now ≡ before) × (output ≡ []) × (refused ≡ false)
 IsDone books before now (action.Run statement) output refused =
     Replies books (from_to before now) (asking_of statement) statement.hold output refused
     ⊎ IsPutOff books (from_to before now) (asking_of statement) statement.hold output refused
@@ -188,6 +189,7 @@ IsInTurn before (action.Run statement) = waiting_in statement.session.name befor
 IsInTurn before (action.Release session) = Unit {0}
 IsInTurn before action.Compact = Unit {0}
 IsInTurn before action.Clean = Unit {0}
+IsInTurn before action.Barrier = Unit {0}
 
 -- and so it was before each of these actions, as they were done: the last statement of the session had ended
 abbrev pub AreInTurn : (books : Change (List Entry)) (before now : Standing) (actions : List Action) (output : List ℕ)

@@ -66,6 +66,7 @@ txn_of_waiting waiting = waiting.txn
 
 abbrev pub number_of : Standing → Action → Option ℕ
 number_of standing (action.Announce session) = None
+number_of standing action.Barrier = None
 number_of standing (action.Run statement) = Some (next_number standing.book)
 number_of standing (action.Release session) = option_map txn_of_waiting (waiting_in session.name standing.waiting)
 number_of standing action.Compact = None
@@ -148,6 +149,7 @@ abbrev pub FollowsOf : Standing → Action → List Entry → List Entry → Typ
 FollowsOf before (action.Announce session) book further = ⊥
 FollowsOf before (action.Run statement) book further = AreBeginning before statement book further
 FollowsOf before (action.Release session) book further = ⊥
+FollowsOf before action.Barrier book further = ⊥
 FollowsOf before action.Compact book further = IsFurtherBeside IsCompacting further
 FollowsOf before action.Clean book further = IsFurtherBeside IsCleaning further
 

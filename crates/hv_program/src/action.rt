@@ -226,6 +226,7 @@ pub fn act<D: Shelf + Drop>(
     match action {
         Action::Run(statement) => run_statement(alloc, house, held, statement),
         Action::Announce(session) => Ok(announce(alloc, &session.name)?),
+        Action::Barrier => Ok(nothing(alloc)),
         Action::Release(session) => release(alloc, house, held, session),
         Action::Compact => quietly(alloc, compact(alloc, house)),
         Action::Clean => quietly(alloc, clean(alloc, house)),

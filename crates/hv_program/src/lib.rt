@@ -15,4 +15,6 @@ mod run;
 mod stop;
 
 pub use laws::opens_again;
-pub use program::{Ended, hive};
+pub use program::{Ended, LIMITS, bad_journal, full_journal, hive, refused_script, status_of};
+pub use reading::read_front;
+pub use stop::Stop;

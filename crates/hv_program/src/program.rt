@@ -25,7 +25,7 @@ use std::sync::Wait;
 use std::thread::Threads;
 
 /// How much a warehouse holds: the limits of this project's profile.
-const LIMITS: Limits = Limits { entries: 131_072 };
+pub const LIMITS: Limits = Limits { entries: 131_072 };
 
 /// How a run ended: its status, and the store.
 #[derive(Drop)]
@@ -48,8 +48,9 @@ fn said<O: Sink>(sink: &mut O, line: &[u8], status: u8) -> u8
     }
 }
 
+/// Writes the line of a script that is refused at this line: the status then.
 #[tactic(auto, unfolding(crate::specs::Lines::script_line))]
-fn refused_script<O: Sink>(alloc: Global, sink: &mut O, line: u64) -> u8
+pub fn refused_script<O: Sink>(alloc: Global, sink: &mut O, line: u64) -> u8
     ensures stopped { 2 ≤ result }
     ensures said { IsSaidOrNot 8 (script_line line) (from_to (O.written sink.old) (O.written sink.new))
         (from_to (O.faults sink.old) (O.faults sink.new)) result }
@@ -61,8 +62,9 @@ fn refused_script<O: Sink>(alloc: Global, sink: &mut O, line: u64) -> u8
     }
 }
 
+/// Writes the line of a journal that is bad at this byte: the status then.
 #[tactic(auto, unfolding(crate::specs::Lines::journal_line))]
-fn bad_journal<O: Sink>(alloc: Global, sink: &mut O, at: u64) -> u8
+pub fn bad_journal<O: Sink>(alloc: Global, sink: &mut O, at: u64) -> u8
     ensures stopped { 2 ≤ result }
     ensures said { IsSaidOrNot 6 (journal_line at) (from_to (O.written sink.old) (O.written sink.new))
         (from_to (O.faults sink.old) (O.faults sink.new)) result }
@@ -74,8 +76,9 @@ fn bad_journal<O: Sink>(alloc: Global, sink: &mut O, at: u64) -> u8
     }
 }
 
+/// Writes the line of a journal that is full: the status then.
 #[tactic(auto, unfolding(crate::specs::Lines::full_line))]
-fn full_journal<O: Sink>(sink: &mut O) -> u8
+pub fn full_journal<O: Sink>(sink: &mut O) -> u8
     ensures stopped { 2 ≤ result }
     ensures said { IsSaid 9 full_line (from_to (O.written sink.old) (O.written sink.new))
         (from_to (O.faults sink.old) (O.faults sink.new)) result }
@@ -84,7 +87,8 @@ fn full_journal<O: Sink>(sink: &mut O) -> u8
     said(sink, b"hive: journal full\n", 9)
 }
 
-fn status_of(ran: Result<bool, Stop>) -> u8
+/// The status of a run that did actions: with whether one was refused, or why it stopped.
+pub fn status_of(ran: Result<bool, Stop>) -> u8
     ensures value { result ≡ ran_status ran }
 {
     match ran {

@@ -1,3 +1,4 @@
 pub mod Utf8
 pub mod Names
 pub mod Taking
+pub mod Untaken

@@ -1,7 +1,7 @@
 -- What an item of a script is: a statement or a directive. This project's profile, after the scripts that
--- Hive's beeline takes. A directive is `!session NAME`, `!hold STAGE`, `!go NAME`, `!compact` or `!clean`, with one
--- space between its parts; spaces, tabs and CR at its end don't count. NAME is 1 to 32 ASCII letters, digits and
--- `_`. STAGE is `start`, `read` or `commit`. No other directive is known yet.
+-- Hive's beeline takes. A directive is `!session NAME`, `!hold STAGE`, `!go NAME`, `!compact`, `!clean` or
+-- `!barrier`, with one space between its parts; spaces, tabs and CR at its end don't count. NAME is 1 to 32 ASCII
+-- letters, digits and `_`. STAGE is `start`, `read` or `commit`. No other directive is known yet.
 use Rattle.std.specs.Prelude.{ℕ, ◌-◌, ◌==◌, ◌&&◌, ◌||◌, Bool, if◌then◌else◌, Option, Some, None, List, length, take, drop, codes, nat_eq, nat_le, nat_lt}
 use Rattle.std.specs.Cmp.Lexicographic.{pointwise}
 use Rattle.std.specs.List.{list_all, suffix_len}
@@ -9,7 +9,7 @@ use Rattle.hv_base.specs.declared.gate.Stage.TheVariants.{Start, Read, Commit}
 use Rattle.hv_script.specs.Items.{tab, carriage_return, space, first_of}
 use Rattle.hv_script.specs.Script.{begins_directive}
 use Rattle.hv_script.specs.declared.kinds.Kind.{Kind}
-use Rattle.hv_script.specs.declared.kinds.Kind.TheVariants.{Statement, Session, Hold, Go, Compact, Clean, Unknown}
+use Rattle.hv_script.specs.declared.kinds.Kind.TheVariants.{Statement, Session, Hold, Go, Compact, Clean, Barrier, Unknown}
 use Rattle.hv_script.specs.declared.kinds.TheConstants.{MAX_NAME}
 
 abbrev pub same_text : List ℕ → List ℕ → Bool
@@ -57,7 +57,8 @@ or_else make (Some rest) other = make rest
 abbrev pub word_kind : List ℕ → Kind
 word_kind word =
     if same_text word (codes "!compact") then Compact
-    else (if same_text word (codes "!clean") then Clean else Unknown)
+    else (if same_text word (codes "!clean") then Clean
+    else (if same_text word (codes "!barrier") then Barrier else Unknown))
 
 abbrev pub directive_of : List ℕ → Kind
 directive_of line =

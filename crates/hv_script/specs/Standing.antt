@@ -6,7 +6,7 @@ use Rattle.std.specs.Option.{is_some, option_to_list}
 use Rattle.hv_script.specs.declared.items.Item.{Item}
 use Rattle.hv_script.specs.declared.script.TheConstants.{MAX_STATEMENTS, MAX_TEXT}
 use Rattle.hv_script.specs.declared.kinds.Kind.{Kind}
-use Rattle.hv_script.specs.declared.kinds.Kind.TheVariants.{Statement, Session, Hold, Go, Compact, Clean, Unknown}
+use Rattle.hv_script.specs.declared.kinds.Kind.TheVariants.{Statement, Session, Hold, Go, Compact, Clean, Barrier, Unknown}
 use Rattle.hv_script.specs.declared.standing.Pending.{Pending}
 use Rattle.hv_script.specs.declared.standing.Held.{Held}
 use Rattle.hv_script.specs.declared.standing.TheConstants.{MAX_SESSIONS}
@@ -48,6 +48,7 @@ is_faulty standing item (Hold stage) = is_some standing.pending
 is_faulty standing item (Go name) = is_some standing.pending || not (is_held name standing.held)
 is_faulty standing item Compact = is_some standing.pending
 is_faulty standing item Clean = is_some standing.pending
+is_faulty standing item Barrier = is_some standing.pending
 is_faulty standing item Unknown = true
 
 abbrev pub with_session : List ℕ → List (List ℕ) → List (List ℕ)
@@ -70,6 +71,7 @@ after standing item (Hold stage) = record standing { pending = Some (record { st
 after standing item (Go name) = record standing { held = filter (is_other name) standing.held }
 after standing item Compact = standing
 after standing item Clean = standing
+after standing item Barrier = standing
 after standing item Unknown = standing
 
 abbrev pub line_of_pending : Pending → ℕ

@@ -30,4 +30,6 @@ pub enum Action {
     Compact,
     /// To take away what is no longer needed.
     Clean,
+    /// To end a phase, where sessions are served beside each other; else nothing.
+    Barrier,
 }

@@ -23,6 +23,8 @@ pub enum Kind {
     Compact,
     /// What is no longer needed goes.
     Clean,
+    /// A phase ends.
+    Barrier,
     /// A directive that isn't known.
     Unknown,
 }
@@ -96,6 +98,8 @@ fn word_kind(word: &[u8]) -> Kind
         Kind::Compact
     } else if word == b"!clean".as_slice() {
         Kind::Clean
+    } else if word == b"!barrier".as_slice() {
+        Kind::Barrier
     } else {
         Kind::Unknown
     }

@@ -7,6 +7,7 @@ mod kinds;
 mod reader;
 mod reading;
 mod script;
+mod serving;
 mod standing;
 mod words;
 
@@ -17,5 +18,6 @@ pub use reading::read_actions;
 pub use script::{
     Cut, MAX_SCRIPT, MAX_STATEMENTS, MAX_TEXT, ScriptFault, cut_script, earlier_of, is_directive,
 };
+pub use serving::read_served;
 pub use standing::MAX_SESSIONS;
 pub use words::{Command, DEFAULT_WORKERS, read_run, read_words};

@@ -49,11 +49,12 @@ impl Reader {
 /// What the items of a script ask to be done, and the first line of their faults.
 #[derive(Drop)]
 pub struct Asked {
-    actions: Vec<Action>,
-    fault: Option<u64>,
+    pub actions: Vec<Action>,
+    pub fault: Option<u64>,
 }
 
-fn read_items(alloc: Global, items: &[Item]) -> Result<Asked, NoMemory>
+/// Reads the items of a script.
+pub fn read_items(alloc: Global, items: &[Item]) -> Result<Asked, NoMemory>
     ensures fault { IfOk result (λ asked. asked.fault ≡ least (fault_lines first_standing items.now)) }
     ensures actions { IfOk result (λ asked. HaveUtf8 items.now → asked.actions.items ≡ actions_from first_standing items.now) }
 {

@@ -122,6 +122,7 @@ impl Sessions {
             Kind::Go(name) => self.pending.is_some() || !holds_session(&self.held, name),
             Kind::Compact => self.pending.is_some(),
             Kind::Clean => self.pending.is_some(),
+            Kind::Barrier => self.pending.is_some(),
             Kind::Unknown => true,
         }
     }
@@ -172,6 +173,7 @@ impl Sessions {
             Kind::Go(name) => Ok(Some(Action::Release(self.session(alloc, name)?))),
             Kind::Compact => Ok(Some(Action::Compact)),
             Kind::Clean => Ok(Some(Action::Clean)),
+            Kind::Barrier => Ok(Some(Action::Barrier)),
             Kind::Hold(_) => Ok(None),
             Kind::Unknown => Ok(None),
         }
@@ -224,6 +226,7 @@ impl Sessions {
             }
             Kind::Compact => Ok(()),
             Kind::Clean => Ok(()),
+            Kind::Barrier => Ok(()),
             Kind::Unknown => Ok(()),
         }
     }

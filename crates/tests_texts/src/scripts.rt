@@ -1,7 +1,7 @@
 use crate::words::{number, piece};
-use hv_base::NoMemory;
+use hv_base::{List, NoMemory};
 use hv_script::{
-    Action, Cut, ScriptFault, Session, cut_script, read_actions, read_run, read_words,
+    Action, Cut, ScriptFault, Session, cut_script, read_actions, read_run, read_served, read_words,
 };
 use std::alloc::{AllocError, Global};
 use std::str;
@@ -32,6 +32,7 @@ fn show(out: &mut String, action: &Action) -> Result<(), AllocError> {
         }
         Action::Compact => write!(out, "compact|"),
         Action::Clean => write!(out, "clean|"),
+        Action::Barrier => write!(out, "barrier|"),
         Action::Run(run) => {
             let Session { name, place } = &run.session;
             write!(
@@ -44,8 +45,8 @@ fn show(out: &mut String, action: &Action) -> Result<(), AllocError> {
 }
 
 /// What a script asks to be done, with a bar behind each, or the line where it is refused.
-fn acts(alloc: Global, out: &mut String, script: &[u8]) -> Result<(), NoMemory> {
-    match read_actions(alloc, script) {
+fn acts(out: &mut String, found: Result<List<Action>, ScriptFault>) -> Result<(), NoMemory> {
+    match found {
         Ok(actions) => {
             for action in actions.as_slice() {
                 show(out, action)?;
@@ -130,7 +131,8 @@ pub fn answer(alloc: Global, out: &mut String, call: &str, words: &[&str]) -> Re
     let script = piece(words, 0).as_bytes();
     match call {
         "cut" => cut(alloc, out, script),
-        "acts" => acts(alloc, out, script),
+        "acts" => acts(out, read_actions(alloc, script)),
+        "served" => acts(out, read_served(alloc, script)),
         "broken" => broken(alloc, out),
         "long_cut" => long(alloc, out, words, true),
         "long" => long(alloc, out, words, false),

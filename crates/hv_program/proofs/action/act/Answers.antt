@@ -12,7 +12,7 @@ use Rattle.hv_program.specs.Change.{from_to}
 use Rattle.hv_program.specs.Keeping.{standing_of}
 use Rattle.hv_program.specs.Running.{Acts, Stops}
 use Rattle.hv_program.specs.Stops.{IsShutFor}
-use Rattle.hv_program.proofs.Acting.{stops-first, opens-first}
+use Rattle.hv_program.proofs.Acting.{stops-first, opens-first, acts-barrier}
 use Rattle.hv_program.proofs.Besides.{quiet-fact, quiet-err, quiet-cause, quiet-can, compact-held, compact-truly, compact-acts, compact-stops, clean-held, clean-truly, clean-acts, clean-stops}
 use Rattle.hv_program.proofs.Blaming.{passed_up}
 use Rattle.hv_program.proofs.action.act.Goals as goal
@@ -127,3 +127,13 @@ returns-in-Clean-clause-cause g c = quiet-cause _ _ c.clean.result c.quietly-in-
 
 pub returns-in-Clean-clause-shut : goal.returns-in-Clean-clause-shut
 returns-in-Clean-clause-shut g c = quiet-err c.clean.result c.quietly-in-Clean.result (IsShutFor c.clean.new.house) c.quietly-in-Clean.ensures c.clean.ensures.shut
+
+pub returns-in-Barrier-clause-later : goal.returns-in-Barrier-clause-later
+returns-in-Barrier-clause-later g c = later_itself g.D.Shelf.faults (seen_in c.args.house.now)
+
+pub returns-in-Barrier-clause-acted : goal.returns-in-Barrier-clause-acted
+returns-in-Barrier-clause-acted g c = λ is.
+    let count = g.D.Shelf.faults c.args.house.now.house.shelf in
+    let before = standing_of c.args.house.now.house c.args.held.now.items in
+    subst (λ (act : Action). Acts (from_to count count) before before act c.nothing.result.text c.nothing.result.refused) (sym c.in-Barrier.is)
+    (acts-barrier count count (entries_of c.args.house.now.house) c.args.held.now.items c.nothing.result c.nothing.ensures)
