@@ -18,7 +18,7 @@ loop-item-preserved c =
     let kind = c.in_ok-kind.ensures.value ∙ ap kind_of c.as_slice.ensures in
     let split : drop place all ≡ item ∷ more = drop_more all place item c.loop-item-test.true ∙ ap (λ (x : Item). x ∷ more) (sym c.item-item.is) in
     ap (λ (l : Option ℕ). earlier l (least (untaken_lines more)))
-    (c.earlier_of.ensures.value
+    (c.earlier_of-line.ensures.value
     ∙ ap (λ (l : Option ℕ). earlier line l) (c.untaken_line.ensures.value ∙ ap (λ (k : Kind). untaken_line item k) kind))
     ∙ untaken-more line item more
     ∙ sym (ap (λ (rest : List Item). earlier line (least (untaken_lines rest))) split)
