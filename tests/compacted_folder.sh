@@ -555,7 +555,7 @@ phases() {
             return at
         }
         !list && /\/0000001/ { list = NR }
-        !put && /^mkdir [0-9]+ .*@\.stage_/ { put = back(NR) }
+        list && !put && /^mkdir / { put = back(NR) }
         !named && /^rename [0-9]+ .*@\.stage_[^"]*", "[^"]*\/base_/ { named = back(NR) }
         named && !published && /^fdatasync / { synced++; if (synced == 2) published = NR }
         published && !cleaning && /^pwrite64 [0-9]+ .*\/journal>/ { cleaning = back(NR) }
@@ -570,7 +570,7 @@ phases() {
                 else if (at < cleaning) what = "leaves"
                 else if (at <= cleaned) what = "stops"
                 else what = "passes"
-                if (line[at] ~ /^(statx|openat|read|getdents64|mkdir|rmdir|unlink|rename|pwrite64|fsync|fdatasync|flock) /) print what, line[at]
+                if (line[at] ~ /^(statx|openat|read|getdents64|mkdir|rmdir|unlink|rename|write|pwrite64|fsync|fdatasync|flock) /) print what, line[at]
             }
         }'
 }
