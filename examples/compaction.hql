@@ -1,6 +1,6 @@
 -- Many small changes of a table, and what a compaction makes of them, beside a reader that began before. Run it in a new folder, since the
--- numbers of transactions count on. It ends with status 0. Below each statement stands what it prints. Look into wh/tables/0000001/day=2024-03-01
--- before and after: docs/FORMATS.md says what the directories there are.
+-- numbers of transactions count on. It ends with status 0. Below each statement stands what it prints. examples/README.md
+-- shows what stands in its folder before and after.
 CREATE TABLE readings (id INT, value INT) PARTITIONED BY (day STRING);
 --   OK
 INSERT INTO readings VALUES (1, 10, '2024-03-01'), (2, 20, '2024-03-02');

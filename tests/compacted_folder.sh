@@ -3,10 +3,11 @@
 #
 # PROGRAM is the built program, as crates/hive/out/hive. Jobs that are under way, or ended long ago, stand in folders whose journals and row
 # files are written here, byte by byte (docs/FORMATS.md), and what a run prints and notes over them was worked out by hand
-# (docs/COMPACTION.md); others are done by a script's `!compact` and `!clean`. tools/hive-book reads what was noted. Where strace is there,
-# the files that a query opens are counted; and where EVERY is above 0, too, an opening that ends two compactions, and a run that compacts
-# and cleans, are killed at each EVERY-th of their calls of the system (3 if left out). Each case that isn't so prints a line; the last line
-# says how many are, and the status is 1 where one isn't.
+# (docs/COMPACTION.md); others are done by a script's `!compact` and `!clean`, also beside sessions that are held. tools/hive-book reads what
+# was noted. Where strace is there, the files that a query opens are counted; and where EVERY is above 0, too, an opening that ends two
+# compactions, a run that compacts and cleans, and one that does so beside a reader are killed before each EVERY-th of their calls of the
+# system that change something (3 if left out), and of a run that compacts and cleans each EVERY-th call fails once. Each case that isn't so
+# prints a line; the last line says how many are, and the status is 1 where one isn't.
 set -u
 here=$(dirname "$(realpath "$0")")
 # shellcheck source=tests/cases.sh
@@ -515,33 +516,274 @@ ended_once() {
 }
 
 killed_while_compacting() {
-    local number=1 lost=0
+    local name number tried=0 lost=0
     to_compact
     cp -r wh asked
-    while :; do
+    printf '%s\n' '!compact' '!clean' >passing
+    cp passing script
+    traced wh
+    so "one that isn't killed compacts and cleans" ended_once
+    numbered wh | changing | each_of "$every" >list
+    while read -r -u 3 name number _; do
         rm -rf wh
         cp -r asked wh
-        printf '%s\n' '!compact' '!clean' >script
-        strace -f -qqq -o /dev/null -e inject=all:signal=KILL:when=$number "$program" wh run <script >out 2>err
-        status=$?
-        is_status 0 && break
-        shows "behind a kill at call $number"
+        cp passing script
+        at_call "$name" "$number" signal=KILL wh
+        so "it is killed before $name $number" [ "$status" -gt 128 ]
+        shows "behind a kill before $name $number"
         passes '!compact' '!clean'
-        so "a later run compacts and cleans behind a kill at call $number" is_status 0
-        so "the job has ended once behind a kill at call $number" ended_once
-        shows "then, behind a kill at call $number"
+        so "a later run compacts and cleans behind a kill before $name $number" is_status 0
+        so "the job has ended once behind a kill before $name $number" ended_once
+        shows "then, behind a kill before $name $number"
         ends | grep -q '^Failed ' && lost=$((lost + 1))
-        number=$((number + every))
-    done
-    so "a run that compacts was killed at some calls" [ $number -gt 60 ]
+        tried=$((tried + 1))
+    done 3<list
     so "at some of them the job was lost" [ $lost -gt 0 ]
-    so "one that isn't killed compacts and cleans" ended_once
-    echo "killed at each ${every}th of $number calls of a run that compacts and cleans"
+    echo "killed before $tried calls of a run that compacts and cleans, of which $lost lost the job"
+}
+
+# ---- calls that fail in it
+
+# phases: of the numbered calls of such a run, what comes of each where it fails: `stops` in the opening, in a call for the journal and where the
+# base gets its name; `reads` and `writes` in what the job reads and puts; `leaves` in what a pass removes; `passes` in what it only lists. What
+# is looked at before a change belongs to the change.
+phases() {
+    awk '
+        { line[NR] = $0 }
+        function back(at) {
+            while (at > 1 && line[at - 1] ~ /^statx /) at--
+            return at
+        }
+        !list && /\/0000001/ { list = NR }
+        list && !put && /^mkdir / { put = back(NR) }
+        !named && /^rename [0-9]+ .*@\.stage_[^"]*", "[^"]*\/base_/ { named = back(NR) }
+        named && !published && /^fdatasync / { synced++; if (synced == 2) published = NR }
+        published && !cleaning && /^pwrite64 [0-9]+ .*\/journal>/ { cleaning = back(NR) }
+        cleaning && !cleaned && /^fdatasync / { last++; if (last == 2) cleaned = NR }
+        END {
+            list = back(list)
+            for (at = 1; at <= NR; at++) {
+                if (at < list) what = "stops"
+                else if (at < put) what = "reads"
+                else if (at < named) what = "writes"
+                else if (at <= published) what = "stops"
+                else if (at < cleaning) what = "leaves"
+                else if (at <= cleaned) what = "stops"
+                else what = "passes"
+                if (line[at] ~ /^(statx|openat|read|getdents64|mkdir|rmdir|unlink|rename|write|pwrite64|fsync|fdatasync|flock) /) print what, line[at]
+            }
+        }'
+}
+
+# came_of WHAT: it came to that.
+came_of() {
+    case $1 in
+    stops) is_status 5 || is_status 3 ;;
+    reads) is_status 0 && is ends 'Failed job 1, cause ReadFault 1' ;;
+    writes) is_status 0 && is ends 'Failed job 1, cause WriteFault 1' ;;
+    leaves) is_status 0 && is ends 'Published job 1, low 1, high 3, mark 6' ;;
+    passes) is_status 0 && is ends 'Published job 1, low 1, high 3, mark 6' 'Cleaned job 1' ;;
+    esac
+}
+
+failing_while_compacting() {
+    local what name number kind
+    to_compact
+    cp -r wh asked
+    printf '%s\n' '!compact' '!clean' >passing
+    cp passing script
+    traced wh
+    numbered wh | phases | each_of "$every" >list
+    while read -r -u 3 what name number _; do
+        rm -rf wh
+        cp -r asked wh
+        cp passing script
+        at_call "$name" "$number" error=EIO wh
+        so "$what where $name $number fails" came_of "$what"
+        so "nothing is printed where $name $number fails" silent
+        shows "behind $name $number, which failed"
+        asks "ALTER TABLE t PARTITION (p='a') COMPACT 'major'"
+        passes '!compact' '!clean'
+        so "a later run compacts and cleans behind $name $number, which failed" is_status 0
+        so "the base stands alone then, behind $name $number, which failed" is directories p=a/base_0000003 "$of_b"
+        shows "then, behind $name $number, which failed"
+    done 3<list
+    for kind in stops reads writes leaves passes; do
+        so "some call $kind" grep -q "^$kind " list
+    done
+    echo "calls that failed once in a run that compacts and cleans: $(cut -d ' ' -f 1 list | sort | uniq -c | tr -s ' \n' ' ')"
 }
 
 if [ "$every" -gt 0 ] && command -v strace >/dev/null; then
     echo "== one that is killed"
     killed_while_compacting
+    echo "== one of which a call fails"
+    failing_while_compacting
+fi
+
+# ---- sessions beside compactions and passes
+
+# scripted LINE..: runs these lines as a script over a new folder.
+scripted() {
+    fresh
+    printf '%s\n' "$@" >script
+    run wh <script
+}
+
+title="id${tab}table${tab}partition${tab}type${tab}state${tab}held_by"
+
+# job NUMBER KIND STATE HOLDER: its line in SHOW COMPACTIONS.
+job() {
+    echo "$1${tab}t${tab}${tab}$2${tab}$3${tab}$4"
+}
+
+# own_deltas FIRST LAST: the directories of what these write ids inserted.
+own_deltas() {
+    local n
+    for n in $(seq "$1" "$2"); do printf 'delta_%07d_%07d_0000\n' "$n" "$n"; done
+}
+
+# stand DIRECTORY..: these stand, and what the write ids from the first number of `with` to the second inserted.
+stand() {
+    diff <(directories) <({ printf '%s\n' "$@" && own_deltas "${with[@]}"; } | LC_ALL=C sort)
+}
+
+# A reader is held when it has its files, while a third row comes, and a compaction and a pass run.
+beside=('CREATE TABLE t (a INT);' 'INSERT INTO t VALUES (1);' 'INSERT INTO t VALUES (2);' '!session r' '!hold read' 'SELECT * FROM t;' '!session w'
+    'INSERT INTO t VALUES (3);' "ALTER TABLE t COMPACT 'major';" '!compact' '!clean' 'SHOW COMPACTIONS;' '!go r' '!clean' 'SHOW COMPACTIONS;'
+    'SELECT * FROM t;')
+its_lines=(OK 'OK inserted 1 deleted 0' 'OK inserted 1 deleted 0' '-- session r' '-- session w' 'OK inserted 1 deleted 0' OK
+    "$title" "$(job 1 major 'ready for cleaning' 4)" a 1 2 "$title" "$(job 1 major succeeded NULL)" a 1 2 3)
+
+echo "== sessions beside compactions and passes"
+scripted "${beside[@]}"
+so "a reader that is held at its files: it is done" is_status 0
+so "and what it prints stood at its beginning" is printed "${its_lines[@]}"
+so "the job is published and cleaned" is ends 'Published job 1, low 1, high 3, mark 7' 'Cleaned job 1'
+so "the base stands alone" is directories base_0000003
+so "with the three rows" cmp wh/tables/0000001/base_0000003/bucket_00000 <(bytes "4856523100$(four 0)$(eight 3)$(row 1 0 1)$(row 2 0 2)$(row 3 0 3)")
+
+scripted 'CREATE TABLE t (a INT);' 'INSERT INTO t VALUES (1);' '!session a' '!hold commit' 'INSERT INTO t VALUES (2);' '!session r' '!hold start' \
+    'SELECT * FROM t;' '!go a' '!session w' "ALTER TABLE t COMPACT 'major';" '!compact' '!clean' '!go r'
+so "a reader that is held at its start: it is done" is_status 0
+so "and goes by its snapshot, though a base stands that it can't use" is printed OK 'OK inserted 1 deleted 0' '-- session a' '-- session r' \
+    'OK inserted 1 deleted 0' '-- session w' OK a 1
+so "the job is published, and not cleaned" is ends 'Published job 1, low 1, high 2, mark 6'
+with=(1 2)
+so "what it read stands beside the base" stand base_0000002
+
+scripted 'CREATE TABLE t (a INT);' 'INSERT INTO t VALUES (1);' '!session a' '!hold commit' 'INSERT INTO t VALUES (2);' '!session b' \
+    'INSERT INTO t VALUES (3);' "ALTER TABLE t COMPACT 'major';" '!compact' 'SHOW COMPACTIONS;' '!go a'
+so "an open write id: it is done" is_status 0
+so "and holds up the compaction" is printed OK 'OK inserted 1 deleted 0' '-- session a' '-- session b' 'OK inserted 1 deleted 0' OK \
+    "$title" "$(job 1 major succeeded NULL)" 'OK inserted 1 deleted 0'
+so "which has nothing to merge" is ends 'Empty job 1'
+so "and no base stands" diff <(directories) <(own_deltas 1 3)
+
+scripted 'CREATE TABLE t (a INT);' '!session a' '!hold commit' 'INSERT INTO t VALUES (1);' '!session b' 'ABORT TRANSACTIONS 2;' '!clean' \
+    'SHOW TRANSACTIONS;' '!go a' 'SELECT * FROM t;'
+so "an aborted write id: a statement was refused" is_status 1
+so "whose transaction is shown no more" is printed OK '-- session a' '-- session b' OK "txnid${tab}state${tab}session" "4${tab}open${tab}b" \
+    'FAILED 31 Aborted by 3' a
+so "it is forgotten, once" [ "$(entries | grep '^Forgot')" = 'Forgot table 1, write 1' ]
+so "and no file stands" [ -z "$(directories)" ]
+
+# so many single INSERTs, of these rows.
+inserting() {
+    seq -f 'INSERT INTO t VALUES (%.0f);' "$1" "$2"
+}
+
+# rows_of FIRST LAST: the records of single rows of these write ids.
+rows_of() {
+    local n
+    for n in $(seq "$1" "$2"); do row "$n" 0 "$n"; done | tr -d '\n'
+}
+
+mapfile -t first < <(inserting 1 11)
+mapfile -t second < <(inserting 12 22)
+mapfile -t acknowledged < <(printf 'OK inserted 1 deleted 0\n%.0s' $(seq 11))
+scripted 'CREATE TABLE t (a INT);' "${first[@]}" '!compact' 'SHOW COMPACTIONS;' 'SET hive.compactor.delta.pct.threshold=2.5;' "${second[@]}" \
+    '!compact' 'SHOW COMPACTIONS;'
+so "eleven and eleven inserts: it is done" is_status 0
+so "a major one is due, and then a minor one" is printed OK "${acknowledged[@]}" "$title" "$(job 1 major 'ready for cleaning' NULL)" OK \
+    "${acknowledged[@]}" "$title" "$(job 1 major 'ready for cleaning' NULL)" "$(job 2 minor 'ready for cleaning' NULL)"
+so "of these ranges" is ends 'Published job 1, low 1, high 11, mark 13' 'Published job 2, low 12, high 22, mark 26'
+with=(1 22)
+so "their directories stand beside what they cover" stand base_0000011 delta_0000012_0000022
+so "the base has eleven rows" cmp wh/tables/0000001/base_0000011/bucket_00000 <(bytes "4856523100$(four 0)$(eight 11)$(rows_of 1 11)")
+so "and the delta the others" cmp wh/tables/0000001/delta_0000012_0000022/bucket_00000 <(bytes "4856523100$(four 0)$(eight 11)$(rows_of 12 22)")
+passes '!clean'
+so "a pass leaves these two" is directories base_0000011 delta_0000012_0000022
+asks 'SELECT count(*) AS n, sum(a) AS s FROM t'
+so "with all rows" is printed "n${tab}s" "22${tab}253"
+
+# ---- such a run that is killed
+
+# While the reader, the fourth transaction, is open, what it may read stands.
+reader_has_its_files() {
+    entries >book 2>/dev/null
+    grep -q '^Start transaction 4,' book || return 0
+    grep -qE '^(Commit|Abort) transaction 4(,|$)' book && return 0
+    [ "$(directories | grep -cE '^delta_(0000001_0000001|0000002_0000002)_0000$')" = 2 ]
+}
+
+# Each row is there whose INSERT was acknowledged (`first` is what the run had printed), and at most the next one.
+rows_are_kept() {
+    local known count
+    known=$(grep -c '^OK inserted 1 deleted 0$' first)
+    if [ "$(cat out)" = 'FAILED 10 NoTable' ]; then
+        [ ! -s first ]
+        return
+    fi
+    for count in "$known" $((known + 1)); do
+        [ "$(cat out)" = "$(echo a && seq "$count")" ] && return 0
+    done
+    return 1
+}
+
+# With two rows and more a base stands alone, with one its delta, and with none nothing.
+one_is_left() {
+    case $(wc -l <shown) in
+    0 | 1) [ -z "$(directories 2>/dev/null)" ] ;;
+    2) is directories "$(own_deltas 1 1)" ;;
+    3) is directories base_0000002 || is directories base_0000003 ;;
+    *) is directories base_0000003 ;;
+    esac
+}
+
+killed_beside_a_reader() {
+    local name number tried=0 at
+    fresh
+    printf '%s\n' "${beside[@]}" >lines
+    cp lines script
+    traced wh
+    so "one that isn't killed prints what it should" is printed "${its_lines[@]}"
+    numbered wh | changing | each_of "$every" >list
+    while read -r -u 3 name number _; do
+        at="behind a kill before $name $number of a run beside a reader"
+        rm -rf wh
+        cp lines script
+        at_call "$name" "$number" signal=KILL wh
+        so "it is killed $at" [ "$status" -gt 128 ]
+        cp out first
+        so "what the reader may read stands $at" reader_has_its_files
+        asks 'SELECT * FROM t'
+        so "the folder opens $at" [ "$status" -lt 2 ]
+        so "with all that was acknowledged $at" rows_are_kept
+        grep -v '^FAILED' out >shown
+        passes "ALTER TABLE t COMPACT 'major';" '!compact' '!clean' 'SHOW COMPACTIONS;'
+        so "no compaction is under way $at" [ -z "$(grep -E "${tab}(initiated|working|ready for cleaning)${tab}" out)" ]
+        so "one directory is left $at" one_is_left
+        asks 'SELECT * FROM t'
+        so "and the same rows $at" cmp -s shown <(grep -v '^FAILED' out)
+        tried=$((tried + 1))
+    done 3<list
+    echo "killed before $tried calls of a run that compacts and cleans beside a reader"
+}
+
+if [ "$every" -gt 0 ] && command -v strace >/dev/null; then
+    echo "== such a run that is killed"
+    killed_beside_a_reader
 fi
 
 # ---- an opening that is killed
@@ -561,23 +803,27 @@ two_at_work() {
 }
 
 killed_while_opening() {
-    local number=1
-    while :; do
-        two_at_work
-        strace -f -qqq -o /dev/null -e inject=all:signal=KILL:when=$number "$program" wh run </dev/null >out 2>err
-        status=$?
-        is_status 0 && break
-        asks 'SELECT p, a FROM t ORDER BY p, a'
-        so "the folder opens behind a kill at call $number" is_status 0
-        so "each job has ended once at call $number" is ends 'Failed job 1, cause Lost' 'Published job 2, low 1, high 4, mark 6'
-        so "and its directories are gone, or stand, at call $number" is directories "${own[@]}" p=b/base_0000004 \
-            p=b/delta_0000003_0000003_0000 p=b/delta_0000004_0000004_0000
-        so "and the rows stand at call $number" is printed "p${tab}a" "a${tab}2" "b${tab}5" "b${tab}6"
-        number=$((number + every))
-    done
-    so "an opening was killed at some calls" [ $number -gt 30 ]
+    local name number tried=0
+    two_at_work
+    : >script
+    traced wh
     so "one that isn't killed ends both" is ends 'Failed job 1, cause Lost' 'Published job 2, low 1, high 4, mark 6'
-    echo "killed at each ${every}th of $number calls of a run that opens a folder"
+    numbered wh | changing | each_of "$every" >list
+    while read -r -u 3 name number _; do
+        two_at_work
+        : >script
+        at_call "$name" "$number" signal=KILL wh
+        so "it is killed before $name $number" [ "$status" -gt 128 ]
+        asks 'SELECT p, a FROM t ORDER BY p, a'
+        so "the folder opens behind a kill before $name $number" is_status 0
+        so "each job has ended once behind a kill before $name $number" is ends 'Failed job 1, cause Lost' 'Published job 2, low 1, high 4, mark 6'
+        so "and its directories are gone, or stand, behind a kill before $name $number" is directories "${own[@]}" p=b/base_0000004 \
+            p=b/delta_0000003_0000003_0000 p=b/delta_0000004_0000004_0000
+        so "and the rows stand behind a kill before $name $number" is printed "p${tab}a" "a${tab}2" "b${tab}5" "b${tab}6"
+        tried=$((tried + 1))
+    done 3<list
+    so "an opening was killed at some calls" [ $tried -gt 3 ]
+    echo "killed before $tried calls of a run that opens a folder"
 }
 
 if [ "$every" -gt 0 ] && command -v strace >/dev/null; then

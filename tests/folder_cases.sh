@@ -4,7 +4,7 @@
 # PROGRAM is the built program, as crates/hive/out/hive. A folder that is exchanged, moved or taken away under a run, journals
 # that are missing or empty, and limits of the system and of one text. Where EVERY is above 0 and strace is there, a run is
 # also stopped at each EVERY-th of its calls of the system (3 if left out), and something is exchanged there before it goes
-# on, or it is killed there; and a folder is exchanged at moments of chance. Each case that isn't so prints a line; the last
+# on, or it is killed before each EVERY-th that changes something; and a folder is exchanged at moments of chance. Each case that isn't so prints a line; the last
 # line says how many are, and the status is 1 where one isn't.
 set -u
 # shellcheck source=tests/cases.sh
@@ -94,12 +94,12 @@ holds() {
     return 1
 }
 
-# stopped_at NUMBER PART ACTION: a run is stopped at its call of the system of that number, and the action is done. 1 where the
-# run has no such call, 2 where the part of the store wasn't held yet.
+# stopped_at NAME NUMBER PART ACTION: a run is stopped at this call of the system, and the action is done. 1 where the run has no
+# such call, 2 where the part of the store wasn't held yet.
 stopped_at() {
     local tracer pid state turns=0 found=0 still=0
     inserts 3 >script
-    strace -f -qqq -o /dev/null -e inject=all:signal=STOP:when="$1" "$program" wh run <script >out 2>err &
+    strace -f -qqq -o /dev/null -e trace="$1" -e inject="$1:signal=STOP:when=$2" "$program" wh run <script >out 2>err &
     tracer=$!
     while [ $turns -lt 2000 ]; do
         turns=$((turns + 1))
@@ -111,8 +111,8 @@ stopped_at() {
         *) still=0 ;;
         esac
         if [ $still -ge 3 ]; then
-            if holds "$pid" "$place/$2"; then
-                "$3"
+            if holds "$pid" "$place/$3"; then
+                "$4"
                 found=1
             fi
             break
@@ -133,22 +133,23 @@ stopped_at() {
 
 # at_each_call PART ACTION CHECK KIND: over the calls after which the part of the store is held, of a store of that kind.
 at_each_call() {
-    local number=1 tried=0 answer
-    while :; do
+    local name number tried=0
+    fresh
+    [ "$4" = new ] || store wh
+    inserts 3 >script
+    traced wh
+    numbered wh | each_of "$every" >list
+    while read -r -u 3 name number _; do
         fresh
         store other
         [ "$4" = new ] || store wh
         before=$([ "$4" = new ] && echo 0 || echo 7)
         sums other >wanted
-        stopped_at $number "$1" "$2"
-        answer=$?
-        [ $answer = 1 ] && break
-        if [ $answer = 0 ]; then
+        if stopped_at "$name" "$number" "$1" "$2"; then
             tried=$((tried + 1))
-            so "$2 at call $number of a run over a $4 store" "$3"
+            so "$2 at $name $number of a run over a $4 store" "$3"
         fi
-        number=$((number + every))
-    done
+    done 3<list
     so "$2 was tried over a $4 store" [ $tried -gt 5 ]
     echo "$2, a $4 store: at $tried calls of the system"
 }
@@ -231,23 +232,26 @@ done
 
 # killed_at_each_call: the first run over a folder is killed at its calls, and the next one opens what it left.
 killed_at_each_call() {
-    local number=1
-    while :; do
+    local name number tried=0
+    fresh
+    inserts 3 >script
+    traced wh
+    numbered wh | changing | each_of "$every" >list
+    while read -r -u 3 name number _; do
         fresh
         inserts 3 >script
-        strace -f -qqq -o /dev/null -e inject=all:signal=KILL:when=$number "$program" wh run <script >out 2>err
-        status=$?
-        is_status 0 && break
+        at_call "$name" "$number" signal=KILL wh
+        so "it is killed before $name $number" [ "$status" -gt 128 ]
         cp out first
         echo 'CREATE TABLE IF NOT EXISTS t (a INT);' >script
         run wh <script
-        so "the folder opens that a run left which was killed at call $number" is_status 0
+        so "the folder opens that a run left which was killed before $name $number" is_status 0
         cp first out
-        so "with each row that was acknowledged at call $number" has_all wh 0
-        number=$((number + every))
-    done
-    so "a first run was killed at some calls" [ $number -gt 50 ]
-    echo "killed at each ${every}th of $number calls of the system"
+        so "with each row that was acknowledged before $name $number" has_all wh 0
+        tried=$((tried + 1))
+    done 3<list
+    so "a first run was killed at some calls" [ $tried -gt 10 ]
+    echo "killed before $tried calls of the system"
 }
 
 # is_gone_or_whole: of seven rows all are there, or their table is gone, which it is where that was printed.
@@ -261,23 +265,27 @@ is_gone_or_whole() {
 
 # killed_while_dropping: a run that drops a table is killed at its calls, and the next one opens what it left.
 killed_while_dropping() {
-    local number=1
-    while :; do
+    local name number tried=0
+    fresh
+    store wh
+    echo 'DROP TABLE t;' >script
+    traced wh
+    so "one that isn't killed drops it" [ "$(rows wh)" = 0 ]
+    numbered wh | changing | each_of "$every" >list
+    while read -r -u 3 name number _; do
         fresh
         store wh
         sums wh/tables >wanted
         echo 'DROP TABLE t;' >script
-        strace -f -qqq -o /dev/null -e inject=all:signal=KILL:when=$number "$program" wh run <script >out 2>err
-        status=$?
-        is_status 0 && break
+        at_call "$name" "$number" signal=KILL wh
+        so "it is killed before $name $number" [ "$status" -gt 128 ]
         cp out first
-        so "the table is there with all its rows, or gone, behind a kill at call $number" is_gone_or_whole
-        so "and its files stand at call $number" [ "$(sums wh/tables)" = "$(cat wanted)" ]
-        number=$((number + every))
-    done
-    so "a run that drops a table was killed at some calls" [ $number -gt 30 ]
-    so "one that isn't killed drops it" [ "$(rows wh)" = 0 ]
-    echo "killed at each ${every}th of $number calls of a run that drops a table"
+        so "the table is there with all its rows, or gone, behind a kill before $name $number" is_gone_or_whole
+        so "and its files stand behind a kill before $name $number" [ "$(sums wh/tables)" = "$(cat wanted)" ]
+        tried=$((tried + 1))
+    done 3<list
+    so "a run that drops a table was killed at some calls" [ $tried -gt 3 ]
+    echo "killed before $tried calls of a run that drops a table"
 }
 
 if [ "$every" -gt 0 ] && command -v strace >/dev/null; then
