@@ -1,0 +1,143 @@
+ghost use Rattle.std.specs.Prelude.{◌≡◌, ℕ, ◌≤◌, [], length, option_map, IfOk, OnOk, OnErr, IsErr, IsErrOf};
+ghost use Rattle.std.specs.FinMap as tree;
+ghost use Rattle.hv_base.specs.Told.{Tells, Moves};
+ghost use Rattle.hv_shelf.specs.Causes.{SoftCause, HardCause};
+ghost use Rattle.hv_shelf.specs.Disk.{Store, places_of, ReadsAt, HasFile, IsRemoved, IsRenamed, HasWritten, TornFile, TornRemove, TornRename, TornWrite, IsListing};
+
+use crate::names::{Names, forget, keep, names_of, note_put, note_removed, note_renamed};
+use hv_base::{Failed, TableId, Text};
+use hv_shelf::{DirAt, Place, Shelf, ShelfFault};
+use std::alloc::Global;
+use std::collections::BTreeMap;
+use std::marker::Model;
+
+/// A store over another one. It lists a table there once, keeps in memory which files the table has,
+/// and keeps that right through each call that changes files. Contracts see the other store alone.
+#[derive(Drop)]
+pub struct KeptShelf<D: Shelf> {
+    inner: D,
+    alloc: Global,
+    kept: Names,
+}
+
+impl<D: Shelf> Model for KeptShelf<D> {
+    ghost use Rattle.hv_kept.specs.Kept.{AreKnown};
+
+    ghost Value = { D };
+
+    ghost coded = { D.code };
+
+    ghost view = { λ k. k.inner };
+
+    ghost invariant = { λ k. AreKnown (D.told k.inner) k.kept };
+}
+
+impl<D: Shelf> KeptShelf<D> {
+    /// A store over `inner` that keeps nothing yet.
+    pub fn over(alloc: Global, inner: D) -> KeptShelf<D>
+        ensures { result ≡ inner }
+    {
+        KeptShelf {
+            inner,
+            alloc,
+            kept: BTreeMap::new(alloc),
+        }
+    }
+
+    /// The other store.
+    pub fn inner(&self) -> &D
+        ensures { result.now ≡ self.now }
+    {
+        &self.inner
+    }
+}
+
+impl<D: Shelf> Shelf for KeptShelf<D> {
+    ghost told = { λ k. D.told k };
+
+    ghost unsynced = { λ k left. D.unsynced k left };
+
+    ghost faults = { λ k. D.faults k };
+
+    ghost hard = { λ k. D.hard k };
+
+    fn journal_len(&mut self) -> Result<u64, Failed> {
+        self.inner.journal_len()
+    }
+
+    fn journal_read(&mut self, at: u64, out: &mut [u8]) -> Result<usize, Failed> {
+        self.inner.journal_read(at, out)
+    }
+
+    fn journal_write(&mut self, at: u64, bytes: &[u8]) -> Result<(), ShelfFault> {
+        self.inner.journal_write(at, bytes)
+    }
+
+    fn journal_sync(&mut self) -> Result<(), Failed> {
+        self.inner.journal_sync()
+    }
+
+    fn list(&mut self, alloc: Global, table: TableId) -> Result<Vec<Place>, ShelfFault> {
+        if let Some(names) = self.kept.get(&table.0) {
+            return Ok(names.list(alloc, table)?);
+        }
+        let places = self.inner.list(alloc, table)?;
+        if let Ok(names) = names_of(self.alloc, &places) {
+            keep(&mut self.kept, table.0, names);
+        }
+        Ok(places)
+    }
+
+    fn get(&mut self, alloc: Global, place: &Place) -> Result<Option<Vec<u8>>, ShelfFault> {
+        self.inner.get(alloc, place)
+    }
+
+    fn put(&mut self, place: &Place, bytes: &[u8]) -> Result<(), ShelfFault> {
+        match self.inner.put(place, bytes) {
+            Ok(()) => {
+                note_put(&mut self.kept, place);
+                Ok(())
+            }
+            Err(ShelfFault::Failed) => {
+                forget(&mut self.kept, place.table.0);
+                Err(ShelfFault::Failed)
+            }
+            Err(ShelfFault::NoMemory) => Err(ShelfFault::NoMemory),
+        }
+    }
+
+    fn rename(&mut self, from: &DirAt, to: &Text) -> Result<(), ShelfFault> {
+        match self.inner.rename(from, to) {
+            Ok(()) => {
+                note_renamed(self.alloc, &mut self.kept, from, to);
+                Ok(())
+            }
+            Err(ShelfFault::Failed) => {
+                forget(&mut self.kept, from.table.0);
+                Err(ShelfFault::Failed)
+            }
+            Err(ShelfFault::NoMemory) => Err(ShelfFault::NoMemory),
+        }
+    }
+
+    fn remove(&mut self, dir: &DirAt) -> Result<(), Failed> {
+        match self.inner.remove(dir) {
+            Ok(()) => {
+                note_removed(&mut self.kept, dir);
+                Ok(())
+            }
+            Err(Failed) => {
+                forget(&mut self.kept, dir.table.0);
+                Err(Failed)
+            }
+        }
+    }
+
+    fn fault_count(&self) -> u64 {
+        self.inner.fault_count()
+    }
+
+    fn hard_count(&self) -> u64 {
+        self.inner.hard_count()
+    }
+}
