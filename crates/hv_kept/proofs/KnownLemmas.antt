@@ -1,17 +1,21 @@
 -- What is kept of the tables, as the store makes a step and tables are kept and forgotten.
 
-use Rattle.std.proofs.Common.{◌≡◌, ℕ, Bool, true, false, cond, ◌&&◌, ◌==◌, List, [], Option, Some, None, Result, Ok, Err, OnOk, OnErr, is_some, nat_cmp, BTreeMap, refl, sym, ◌∙◌, ap, subst, inl, inr}
+use Rattle.std.proofs.Common.{◌≡◌, ℕ, Bool, true, false, cond, ◌&&◌, ◌==◌, List, [], Option, Some, None, Result, Ok, Err, OnOk, OnErr, IsErrOf, is_ok, length, is_some, le_refl, lt_irrefl, nat_cmp, BTreeMap, refl, sym, ◌∙◌, ap, subst, inl, inr}
 use Rattle.std.specs.Cmp.{unsigned_Decides, unsigned_ties}
 use Rattle.std.specs.BTreeMap.{is_at, get, Updates, IsUnchanged}
 use Rattle.std.specs.Map.{lookup}
 use Rattle.std.specs.FinMap as tree
 use Rattle.hv_base.specs.declared.ids.TableId.{TableId}
 use Rattle.hv_base.specs.Told.{Tells, Moves}
+use Rattle.hv_base.proofs.ToldLemmas.{Moves-weaken}
+use Rattle.hv_shelf.specs.declared.fault.ShelfFault.{ShelfFault}
+use Rattle.hv_shelf.specs.declared.fault.ShelfFault.TheVariants as fault
 use Rattle.hv_shelf.specs.declared.place.Place.{Place}
 use Rattle.hv_shelf.specs.declared.place.DirAt.{DirAt}
-use Rattle.hv_shelf.specs.Disk.{Store, places_of, HasFile, IsRemoved, HasWritten, TornWrite}
+use Rattle.hv_shelf.specs.Causes.{SoftCause}
+use Rattle.hv_shelf.specs.Disk.{Store, places_of, HasFile, TornFile, IsRemoved, TornRemove, IsRenamed, TornRename, HasWritten, TornWrite}
 use Rattle.hv_kept.specs.Kept.{is_among, HaveSame, Knows, AreKnown, IsWithin}
-use Rattle.hv_kept.proofs.NamesLemmas.{true_or_false, listed, same_places, put_same, removed_same}
+use Rattle.hv_kept.proofs.NamesLemmas.{true_or_false, listed, same_places, put_same, removed_same, put_within, torn_put_within, removed_within, torn_removed_within, renamed_within, torn_renamed_within}
 
 -- ## One table
 
@@ -114,10 +118,7 @@ tree_known kept before now step known other = one before now _ step (known other
     one (Some s) None (Some names) step known = absurd step
     one (Some s) (Some s') (Some names) step known = subst (HaveSame other names.tree) (sym step) known
 
-pub written_tree : (at : ℕ) (bytes : List ℕ) (s s' : Store) → HasWritten at bytes s s' → s'.tree ≡ s.tree
-written_tree at bytes s s' written = written.tree_is
-
-pub torn_tree : (at count : ℕ) (s s' : Store) → TornWrite at count s s' → s'.tree ≡ s.tree
+torn_tree : (at count : ℕ) (s s' : Store) → TornWrite at count s s' → s'.tree ≡ s.tree
 torn_tree at count s s' (inl e) = ap (λ (x : Store). x.tree) e
 torn_tree at count s s' (inr broken) = broken.tree_is
 
@@ -128,3 +129,82 @@ pub keep_either : {E : Type 0} (table : ℕ) (names : Store) (kept kept' : BTree
     AreKnown told kept → Knows told table (Some names) → AreKnown told kept'
 keep_either table names kept kept' told (Ok was) done unchanged known one = keep_known table names kept kept' told done.0 known one
 keep_either table names kept kept' told (Err fault) done unchanged known one = same_known kept kept' told unchanged known
+
+-- ## What is noted of a call that succeeded
+
+-- what a map had of a table that was taken out of it
+pub taken_known : (table : ℕ) (kept : BTreeMap ℕ Store) (told : Option Store) (names : Store) (found : Option Store) →
+    found ≡ get nat_cmp kept table → found ≡ Some names → AreKnown told kept → Knows told table (Some names)
+taken_known table kept told names found value is known = subst (Knows told table) (sym value ∙ is) (known table)
+
+pub put_taken : (place : Place) (bytes : List ℕ) (kept kept' : BTreeMap ℕ Store) (before now : Option Store) →
+    ((q : ℕ) → get nat_cmp kept' q ≡ cond (is_at (nat_cmp place.table.0) q) None (get nat_cmp kept q)) →
+    Moves (HasFile place bytes) before now → AreKnown before kept → AreKnown now kept'
+put_taken place bytes kept kept' before now updates step =
+    forget_known place.table.0 kept kept' before now updates
+    (Moves-weaken (HasFile place bytes) (IsWithin place.table.0) (λ s s'. put_within place bytes s s') before now step)
+
+pub removed_taken : (dir : DirAt) (kept kept' : BTreeMap ℕ Store) (before now : Option Store) →
+    ((q : ℕ) → get nat_cmp kept' q ≡ cond (is_at (nat_cmp dir.table.0) q) None (get nat_cmp kept q)) →
+    Moves (IsRemoved dir) before now → AreKnown before kept → AreKnown now kept'
+removed_taken dir kept kept' before now updates step =
+    forget_known dir.table.0 kept kept' before now updates
+    (Moves-weaken (IsRemoved dir) (IsWithin dir.table.0) (λ s s'. removed_within dir s s') before now step)
+
+pub renamed_taken : (from : DirAt) (to : List ℕ) (kept kept' : BTreeMap ℕ Store) (before now : Option Store) →
+    ((q : ℕ) → get nat_cmp kept' q ≡ cond (is_at (nat_cmp from.table.0) q) None (get nat_cmp kept q)) →
+    Moves (IsRenamed from to) before now → AreKnown before kept → AreKnown now kept'
+renamed_taken from to kept kept' before now updates step =
+    forget_known from.table.0 kept kept' before now updates
+    (Moves-weaken (IsRenamed from to) (IsWithin from.table.0) (λ s s'. renamed_within from to s s') before now step)
+
+-- ## Calls that failed
+
+pub torn_put : (place : Place) (before now : Option Store) → Moves (TornFile place) before now → Moves (IsWithin place.table.0) before now
+torn_put place before now = Moves-weaken (TornFile place) (IsWithin place.table.0) (λ s s'. torn_put_within place s s') before now
+
+pub torn_removed : (dir : DirAt) (before now : Option Store) → Moves (TornRemove dir) before now → Moves (IsWithin dir.table.0) before now
+torn_removed dir before now = Moves-weaken (TornRemove dir) (IsWithin dir.table.0) (λ s s'. torn_removed_within dir s s') before now
+
+pub torn_renamed : (from : DirAt) (to : List ℕ) (before now : Option Store) →
+    Moves (TornRename from to) before now → Moves (IsWithin from.table.0) before now
+torn_renamed from to before now =
+    Moves-weaken (TornRename from to) (IsWithin from.table.0) (λ s s'. torn_renamed_within from to s s') before now
+
+-- ## Calls of the journal
+
+pub written_known : (kept : BTreeMap ℕ Store) (at : ℕ) (bytes : List ℕ) (before now : Option Store) →
+    Moves (HasWritten at bytes) before now → AreKnown before kept → AreKnown now kept
+written_known kept at bytes before now step =
+    tree_known kept before now (Moves-weaken (HasWritten at bytes) (λ s s'. s'.tree ≡ s.tree) (λ s s' w. w.tree_is) before now step)
+
+pub torn_known : (kept : BTreeMap ℕ Store) (at count : ℕ) (before now : Option Store) →
+    Moves (TornWrite at count) before now → AreKnown before kept → AreKnown now kept
+torn_known kept at count before now step =
+    tree_known kept before now (Moves-weaken (TornWrite at count) (λ s s'. s'.tree ≡ s.tree) (λ s s' w. torn_tree at count s s' w) before now step)
+
+pub told_known : (kept : BTreeMap ℕ Store) (before now : Option Store) → now ≡ before → AreKnown before kept → AreKnown now kept
+told_known kept before now same known = subst (λ told. AreKnown told kept) (sym same) known
+
+-- what a call of the journal that writes left
+pub journal_known : (kept : BTreeMap ℕ Store) (at : ℕ) (bytes : List ℕ) (before now : Option Store) (result : Result (Unit {0}) ShelfFault) →
+    OnOk result (Moves (HasWritten at bytes) before now) → (IsErrOf result fault.Failed → Moves (TornWrite at (length bytes)) before now) →
+    (IsErrOf result fault.NoMemory → now ≡ before) → AreKnown before kept → AreKnown now kept
+journal_known kept at bytes before now (Ok done) written torn same = written_known kept at bytes before now written
+journal_known kept at bytes before now (Err fault.Failed) written torn same = torn_known kept at (length bytes) before now (torn refl)
+journal_known kept at bytes before now (Err fault.NoMemory) written torn same = told_known kept before now (same refl)
+
+pub on_ok : {A E : Type 0} (result : Result A E) (P : Type 0) → is_ok result ≡ true → OnOk result P → P
+on_ok (Ok value) P is p = p
+on_ok (Err fault) P is p = absurd (cc)
+
+-- a call that didn't ask the other store, and didn't fail
+pub calm : {F : Type 0} (faults hard : ℕ) → ¬ F → SoftCause F faults faults hard hard
+calm faults hard no = record {
+  later = le_refl faults;
+  hard_later = le_refl hard;
+  failed = λ f. absurd (no f);
+  failed_last = λ f. absurd (no f);
+  rose_last = λ low. absurd (lt_irrefl faults low);
+  below_last = λ low. refl;
+}

@@ -1,7 +1,7 @@
 -- Which files tables have, kept beside a store: for a table a tree with the same files, whose bytes
 -- are nobody's matter. Source: this project's profile.
 
-use Rattle.std.specs.Prelude.{◌≡◌, ℕ, List, map, filter, Option, Some, None, false, true, cond, ◌==◌}
+use Rattle.std.specs.Prelude.{◌≡◌, ℕ, Bool, List, map, filter, Option, Some, None, false, true, cond, ◌==◌}
 use Rattle.std.specs.Ordering.{nat_cmp, eq_by_cmp}
 use Rattle.std.specs.List.{list_any}
 use Rattle.std.specs.BTreeMap.{BTreeMap, get}

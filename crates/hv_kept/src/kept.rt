@@ -4,7 +4,7 @@ ghost use Rattle.hv_base.specs.Told.{Tells, Moves};
 ghost use Rattle.hv_shelf.specs.Causes.{SoftCause, HardCause};
 ghost use Rattle.hv_shelf.specs.Disk.{Store, places_of, ReadsAt, HasFile, IsRemoved, IsRenamed, HasWritten, TornFile, TornRemove, TornRename, TornWrite, IsListing};
 
-use crate::names::{Names, forget, keep, names_of, note_put, note_removed, note_renamed};
+use crate::names::{Names, forget, learn, list_names, note_put, note_removed, note_renamed};
 use hv_base::{Failed, TableId, Text};
 use hv_shelf::{DirAt, Place, Shelf, ShelfFault};
 use std::alloc::Global;
@@ -79,13 +79,15 @@ impl<D: Shelf> Shelf for KeptShelf<D> {
 
     fn list(&mut self, alloc: Global, table: TableId) -> Result<Vec<Place>, ShelfFault> {
         if let Some(names) = self.kept.get(&table.0) {
-            return Ok(names.list(alloc, table)?);
+            return list_names(alloc, names, table);
         }
-        let places = self.inner.list(alloc, table)?;
-        if let Ok(names) = names_of(self.alloc, &places) {
-            keep(&mut self.kept, table.0, names);
+        match self.inner.list(alloc, table) {
+            Ok(places) => {
+                learn(self.alloc, &mut self.kept, table, &places);
+                Ok(places)
+            }
+            Err(fault) => Err(fault),
         }
-        Ok(places)
     }
 
     fn get(&mut self, alloc: Global, place: &Place) -> Result<Option<Vec<u8>>, ShelfFault> {

@@ -1,14 +1,14 @@
-ghost use Rattle.std.specs.Prelude.{◌≡◌, List, ℕ, true, false, ◌||◌, not, Option, Some, IfOk, OnOk};
+ghost use Rattle.std.specs.Prelude.{◌≡◌, List, ℕ, true, false, ◌||◌, not, Option, Some, IfOk, OnOk, IsErrOf};
 ghost use Rattle.std.specs.List.{list_any};
 ghost use Rattle.std.specs.FinMap as tree;
-ghost use Rattle.hv_base.specs.Told.{Moves};
+ghost use Rattle.hv_base.specs.Told.{Tells, Moves};
 ghost use Rattle.hv_shelf.specs.declared.place.Place.{Place};
-ghost use Rattle.hv_shelf.specs.Disk.{Store, HasFile, IsRemoved, IsRenamed};
+ghost use Rattle.hv_shelf.specs.Disk.{Store, HasFile, IsRemoved, IsRenamed, IsListing, places_of};
 ghost use Rattle.hv_shelf.specs.Places.{is_in, dir_named, place_named};
 ghost use Rattle.hv_kept.specs.Kept.{is_among, moved_places, HasMoved, Knows, AreKnown, IsWithin};
 
-use hv_base::{Duplicate, NoMemory, Text};
-use hv_shelf::{DirAt, MemoryDisk, Place};
+use hv_base::{Duplicate, NoMemory, TableId, Text};
+use hv_shelf::{DirAt, MemoryDisk, Place, ShelfFault};
 use std::alloc::Global;
 use std::collections::BTreeMap;
 
@@ -28,7 +28,7 @@ fn put_all(names: &mut MemoryDisk, places: &[Place]) -> Result<(), NoMemory>
 }
 
 /// A disk with an empty file at each of these places.
-pub fn names_of(alloc: Global, places: &[Place]) -> Result<MemoryDisk, NoMemory>
+fn names_of(alloc: Global, places: &[Place]) -> Result<MemoryDisk, NoMemory>
     ensures names { IfOk result (λ names. (place : Place) →
         tree.contains_key names.tree place ≡ is_among places.now place) }
 {
@@ -38,11 +38,34 @@ pub fn names_of(alloc: Global, places: &[Place]) -> Result<MemoryDisk, NoMemory>
 }
 
 /// Keeps the files of a table, where there is memory for it.
-pub fn keep(kept: &mut Names, table: u64, names: MemoryDisk)
+fn keep(kept: &mut Names, table: u64, names: MemoryDisk)
     ensures known { (told : Option Store) → AreKnown told kept.old
         → Knows told table (Some names) → AreKnown told kept.new }
 {
     let _ = kept.insert(table, names);
+}
+
+/// Keeps the files of a table that was listed, where there is memory for it.
+pub fn learn(alloc: Global, kept: &mut Names, table: TableId, places: &[Place])
+    ensures known { (told : Option Store) → Tells told (λ s. places.now ≡ places_of table s.tree)
+        → AreKnown told kept.old → AreKnown told kept.new }
+{
+    if let Ok(names) = names_of(alloc, places) {
+        keep(kept, table.0, names);
+    }
+}
+
+/// The places of a table that is kept, rising.
+pub fn list_names(alloc: Global, names: &MemoryDisk, table: TableId) -> Result<Vec<Place>, ShelfFault>
+    ensures rising { IfOk result (λ places. IsListing table places.items) }
+    ensures done { IfOk result (λ places. (told : Option Store) → Knows told table.0 (Some names.now)
+        → Tells told (λ s. places.items ≡ places_of table s.tree)) }
+    ensures unfailed { ¬ (IsErrOf result ShelfFault.Failed) }
+{
+    match names.list(alloc, table) {
+        Ok(places) => Ok(places),
+        Err(NoMemory) => Err(ShelfFault::NoMemory),
+    }
 }
 
 /// Forgets the files of a table.

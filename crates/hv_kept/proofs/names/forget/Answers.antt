@@ -3,5 +3,5 @@ use Rattle.hv_kept.proofs.names.forget.Goals as goal
 
 pub returns : goal.returns
 returns c = record {
-  known = λ before now step known. forget_known c.args.table _ _ before now c.remove.ensures.updates.0 step known;
+  known = λ before now step known. forget_known c.args.table c.args.kept.now c.remove.new.self before now c.remove.ensures.updates.0 step known;
 }
