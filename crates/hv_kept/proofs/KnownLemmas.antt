@@ -1,13 +1,13 @@
 -- What is kept of the tables, as the store makes a step and tables are kept and forgotten.
 
-use Rattle.std.proofs.Common.{◌≡◌, ℕ, Bool, true, false, cond, ◌&&◌, ◌==◌, List, [], Option, Some, None, Result, Ok, Err, OnOk, OnErr, IsErrOf, is_ok, length, is_some, le_refl, lt_irrefl, nat_cmp, BTreeMap, refl, sym, ◌∙◌, ap, subst, inl, inr}
+use Rattle.std.proofs.Common.{◌≡◌, ℕ, Bool, true, false, cond, ◌&&◌, ◌==◌, List, [], Option, Some, None, Result, Vec, Ok, Err, IfOk, OnOk, OnErr, IsErrOf, is_ok, length, is_some, le_refl, lt_irrefl, nat_cmp, BTreeMap, refl, sym, ◌∙◌, ap, subst, inl, inr}
 use Rattle.std.specs.Cmp.{unsigned_Decides, unsigned_ties}
 use Rattle.std.specs.BTreeMap.{is_at, get, Updates, IsUnchanged}
 use Rattle.std.specs.Map.{lookup}
 use Rattle.std.specs.FinMap as tree
 use Rattle.hv_base.specs.declared.ids.TableId.{TableId}
 use Rattle.hv_base.specs.Told.{Tells, Moves}
-use Rattle.hv_base.proofs.ToldLemmas.{Moves-weaken}
+use Rattle.hv_base.proofs.ToldLemmas.{Moves-same, Moves-weaken}
 use Rattle.hv_shelf.specs.declared.fault.ShelfFault.{ShelfFault}
 use Rattle.hv_shelf.specs.declared.fault.ShelfFault.TheVariants as fault
 use Rattle.hv_shelf.specs.declared.place.Place.{Place}
@@ -160,16 +160,21 @@ renamed_taken from to kept kept' before now updates step =
 
 -- ## Calls that failed
 
-pub torn_put : (place : Place) (before now : Option Store) → Moves (TornFile place) before now → Moves (IsWithin place.table.0) before now
+torn_put : (place : Place) (before now : Option Store) → Moves (TornFile place) before now → Moves (IsWithin place.table.0) before now
 torn_put place before now = Moves-weaken (TornFile place) (IsWithin place.table.0) (λ s s'. torn_put_within place s s') before now
 
-pub torn_removed : (dir : DirAt) (before now : Option Store) → Moves (TornRemove dir) before now → Moves (IsWithin dir.table.0) before now
+torn_removed : (dir : DirAt) (before now : Option Store) → Moves (TornRemove dir) before now → Moves (IsWithin dir.table.0) before now
 torn_removed dir before now = Moves-weaken (TornRemove dir) (IsWithin dir.table.0) (λ s s'. torn_removed_within dir s s') before now
 
-pub torn_renamed : (from : DirAt) (to : List ℕ) (before now : Option Store) →
+torn_renamed : (from : DirAt) (to : List ℕ) (before now : Option Store) →
     Moves (TornRename from to) before now → Moves (IsWithin from.table.0) before now
 torn_renamed from to before now =
     Moves-weaken (TornRename from to) (IsWithin from.table.0) (λ s s'. torn_renamed_within from to s s') before now
+
+unmoved : (table : ℕ) (before now : Option Store) → now ≡ before → Moves (IsWithin table) before now
+unmoved table before now same =
+    subst (λ told. Moves (IsWithin table) before told) (sym same)
+    (Moves-same (IsWithin table) (λ s. record { others = λ q h. refl }) before)
 
 -- ## Calls of the journal
 
@@ -208,3 +213,30 @@ calm faults hard no = record {
   rose_last = λ low. absurd (lt_irrefl faults low);
   below_last = λ low. refl;
 }
+
+-- what a call that wasn't done left
+pub put_undone : (place : Place) (before now : Option Store) (result : Result (Unit {0}) ShelfFault) → is_ok result ≡ false →
+    (IsErrOf result fault.Failed → Moves (TornFile place) before now) → (IsErrOf result fault.NoMemory → now ≡ before) →
+    Moves (IsWithin place.table.0) before now
+put_undone place before now (Ok done) undone torn same = absurd (cc)
+put_undone place before now (Err fault.Failed) undone torn same = torn_put place before now (torn refl)
+put_undone place before now (Err fault.NoMemory) undone torn same = unmoved place.table.0 before now (same refl)
+
+pub rename_undone : (from : DirAt) (to : List ℕ) (before now : Option Store) (result : Result (Unit {0}) ShelfFault) → is_ok result ≡ false →
+    (IsErrOf result fault.Failed → Moves (TornRename from to) before now) → (IsErrOf result fault.NoMemory → now ≡ before) →
+    Moves (IsWithin from.table.0) before now
+rename_undone from to before now (Ok done) undone torn same = absurd (cc)
+rename_undone from to before now (Err fault.Failed) undone torn same = torn_renamed from to before now (torn refl)
+rename_undone from to before now (Err fault.NoMemory) undone torn same = unmoved from.table.0 before now (same refl)
+
+pub remove_undone : {E : Type 0} (dir : DirAt) (before now : Option Store) (result : Result (Unit {0}) E) → is_ok result ≡ false →
+    OnErr result (Moves (TornRemove dir) before now) → Moves (IsWithin dir.table.0) before now
+remove_undone dir before now (Ok done) undone torn = absurd (cc)
+remove_undone dir before now (Err failed) undone torn = torn_removed dir before now torn
+
+-- what a table that is kept was listed as
+pub listed_if : {E : Type 0} (table : TableId) (names : Store) (result : Result (Vec Place) E) (told : Option Store) →
+    IfOk result (λ places. (other : Option Store) → Knows other table.0 (Some names) → Tells other (λ s. places.items ≡ places_of table s.tree)) →
+    Knows told table.0 (Some names) → IfOk result (λ places. Tells told (λ s. places.items ≡ places_of table s.tree))
+listed_if table names (Ok places) told is known = is told known
+listed_if table names (Err fault) told is known = tt

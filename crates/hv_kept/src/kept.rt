@@ -4,7 +4,8 @@ ghost use Rattle.hv_base.specs.Told.{Tells, Moves};
 ghost use Rattle.hv_shelf.specs.Causes.{SoftCause, HardCause};
 ghost use Rattle.hv_shelf.specs.Disk.{Store, places_of, ReadsAt, HasFile, IsRemoved, IsRenamed, HasWritten, TornFile, TornRemove, TornRename, TornWrite, IsListing};
 
-use crate::names::{Names, forget, learn, list_names, note_put, note_removed, note_renamed};
+use crate::names::{Names, list_names};
+use crate::settling::{settle_list, settle_put, settle_remove, settle_rename};
 use hv_base::{Failed, TableId, Text};
 use hv_shelf::{DirAt, Place, Shelf, ShelfFault};
 use std::alloc::Global;
@@ -81,13 +82,9 @@ impl<D: Shelf> Shelf for KeptShelf<D> {
         if let Some(names) = self.kept.get(&table.0) {
             return list_names(alloc, names, table);
         }
-        match self.inner.list(alloc, table) {
-            Ok(places) => {
-                learn(self.alloc, &mut self.kept, table, &places);
-                Ok(places)
-            }
-            Err(fault) => Err(fault),
-        }
+        let listed = self.inner.list(alloc, table);
+        settle_list(self.alloc, &mut self.kept, table, &listed);
+        listed
     }
 
     fn get(&mut self, alloc: Global, place: &Place) -> Result<Option<Vec<u8>>, ShelfFault> {
@@ -95,44 +92,21 @@ impl<D: Shelf> Shelf for KeptShelf<D> {
     }
 
     fn put(&mut self, place: &Place, bytes: &[u8]) -> Result<(), ShelfFault> {
-        match self.inner.put(place, bytes) {
-            Ok(()) => {
-                note_put(&mut self.kept, place);
-                Ok(())
-            }
-            Err(ShelfFault::Failed) => {
-                forget(&mut self.kept, place.table.0);
-                Err(ShelfFault::Failed)
-            }
-            Err(ShelfFault::NoMemory) => Err(ShelfFault::NoMemory),
-        }
+        let done = self.inner.put(place, bytes);
+        settle_put(&mut self.kept, place, done.is_ok());
+        done
     }
 
     fn rename(&mut self, from: &DirAt, to: &Text) -> Result<(), ShelfFault> {
-        match self.inner.rename(from, to) {
-            Ok(()) => {
-                note_renamed(self.alloc, &mut self.kept, from, to);
-                Ok(())
-            }
-            Err(ShelfFault::Failed) => {
-                forget(&mut self.kept, from.table.0);
-                Err(ShelfFault::Failed)
-            }
-            Err(ShelfFault::NoMemory) => Err(ShelfFault::NoMemory),
-        }
+        let done = self.inner.rename(from, to);
+        settle_rename(self.alloc, &mut self.kept, from, to, done.is_ok());
+        done
     }
 
     fn remove(&mut self, dir: &DirAt) -> Result<(), Failed> {
-        match self.inner.remove(dir) {
-            Ok(()) => {
-                note_removed(&mut self.kept, dir);
-                Ok(())
-            }
-            Err(Failed) => {
-                forget(&mut self.kept, dir.table.0);
-                Err(Failed)
-            }
-        }
+        let done = self.inner.remove(dir);
+        settle_remove(&mut self.kept, dir, done.is_ok());
+        done
     }
 
     fn fault_count(&self) -> u64 {

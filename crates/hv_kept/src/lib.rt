@@ -4,5 +4,6 @@
 
 mod kept;
 mod names;
+mod settling;
 
 pub use kept::KeptShelf;

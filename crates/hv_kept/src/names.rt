@@ -56,7 +56,11 @@ pub fn learn(alloc: Global, kept: &mut Names, table: TableId, places: &[Place])
 }
 
 /// The places of a table that is kept, rising.
-pub fn list_names(alloc: Global, names: &MemoryDisk, table: TableId) -> Result<Vec<Place>, ShelfFault>
+pub fn list_names(
+    alloc: Global,
+    names: &MemoryDisk,
+    table: TableId,
+) -> Result<Vec<Place>, ShelfFault>
     ensures rising { IfOk result (λ places. IsListing table places.items) }
     ensures done { IfOk result (λ places. (told : Option Store) → Knows told table.0 (Some names.now)
         → Tells told (λ s. places.items ≡ places_of table s.tree)) }
@@ -135,12 +139,7 @@ fn place_named(alloc: Global, place: &Place, to: &Text) -> Result<Place, NoMemor
 }
 
 /// Where the directory's files stand under its other name.
-fn moved(
-    alloc: Global,
-    names: &MemoryDisk,
-    from: &DirAt,
-    to: &Text,
-) -> Result<Vec<Place>, NoMemory>
+fn moved(alloc: Global, names: &MemoryDisk, from: &DirAt, to: &Text) -> Result<Vec<Place>, NoMemory>
     ensures { IfOk result (λ places.
         places.items ≡ moved_places from.now to.now (tree.keys names.now.tree)) }
 {
