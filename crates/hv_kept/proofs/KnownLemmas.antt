@@ -205,11 +205,11 @@ on_ok (Err fault) P is p = absurd (cc)
 
 -- a call that didn't ask the other store, and didn't fail
 pub calm : {F : Type 0} (faults hard : ℕ) → ¬ F → SoftCause F faults faults hard hard
-calm faults hard no = record {
+calm faults hard never = record {
   later = le_refl faults;
   hard_later = le_refl hard;
-  failed = λ f. absurd (no f);
-  failed_last = λ f. absurd (no f);
+  failed = λ f. absurd (never f);
+  failed_last = λ f. absurd (never f);
   rose_last = λ low. absurd (lt_irrefl faults low);
   below_last = λ low. refl;
 }

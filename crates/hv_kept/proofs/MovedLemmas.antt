@@ -1,6 +1,6 @@
 -- A directory's files get another directory's name.
 
-use Rattle.std.proofs.Common.{◌≡◌, ℕ, Bool, true, false, not, cond, ◌&&◌, ◌||◌, nat_eq, List, [], ◌∷◌, ◌++◌, append_assoc, append-nil, map, filter, Option, Some, None, is_some, refl, sym, ◌∙◌, ap}
+use Rattle.std.proofs.Common.{◌≡◌, ℕ, Bool, true, false, not, cond, ◌&&◌, ◌||◌, nat_eq, List, [], ◌∷◌, map, filter, Option, Some, None, is_some, refl, sym, ◌∙◌, ap}
 use Rattle.std.specs.Bool.{Decides}
 use Rattle.std.specs.Ordering.{eq_by_cmp}
 use Rattle.std.specs.List.{list_any}
@@ -182,39 +182,8 @@ module _ (from : DirAt) (to : List ℕ) where
   renamed_known names names' (Some s) None noted step known = absurd step
   renamed_known names names' (Some s) (Some s') noted step known = renamed_same names.tree names'.tree s s' noted step known
 
--- ## Walking over the files
-
-pub any_next : (keeps : Place → Bool) (items rest : List Place) (place : Place) (b whole : Bool) → items ≡ place ∷ rest → b ≡ keeps place → b ≡ false →
-    list_any keeps items ≡ whole → list_any keeps rest ≡ whole
-any_next keeps items rest place b whole are is no so_far =
-    ap (λ x. x || list_any keeps rest) (sym no ∙ is) ∙ sym (ap (list_any keeps) are) ∙ so_far
-
-pub any_found : (keeps : Place → Bool) (items rest : List Place) (place : Place) (b whole : Bool) → items ≡ place ∷ rest → b ≡ keeps place → b ≡ true →
-    list_any keeps items ≡ whole → whole ≡ true
-any_found keeps items rest place b whole are is yes so_far =
-    sym so_far ∙ ap (list_any keeps) are ∙ ap (λ x. x || list_any keeps rest) (sym is ∙ yes)
-
-module _ (from : DirAt) (to : List ℕ) where
-  one_more : (places rest : List Place) (place : Place) (b : Bool) → is_in from place ≡ b →
-      places ++ moved_places from to (place ∷ rest) ≡ places ++ map (λ p. place_named p to) (cond b (place ∷ filter (is_in from) rest) (filter (is_in from) rest))
-  one_more places rest place b e =
-      ap (λ x. places ++ map (λ p. place_named p to) (cond x (place ∷ filter (is_in from) rest) (filter (is_in from) rest))) e
-
-  pub moved_next : (items rest places places' whole : List Place) (place named : Place) (b : Bool) → items ≡ place ∷ rest → b ≡ is_in from place → b ≡ true →
-      named ≡ place_named place to → places' ≡ places ++ named ∷ [] → places ++ moved_places from to items ≡ whole →
-      places' ++ moved_places from to rest ≡ whole
-  moved_next items rest places places' whole place named b are is yes name pushed so_far =
-      ap (λ ps. ps ++ moved_places from to rest) pushed
-      ∙ append_assoc places (named ∷ []) (moved_places from to rest)
-      ∙ ap (λ n. places ++ n ∷ moved_places from to rest) name
-      ∙ sym (ap (λ ps. places ++ moved_places from to ps) are ∙ one_more places rest place true (sym is ∙ yes))
-      ∙ so_far
-
-  pub moved_pass : (items rest places whole : List Place) (place : Place) (b : Bool) → items ≡ place ∷ rest → b ≡ is_in from place → b ≡ false →
-      places ++ moved_places from to items ≡ whole → places ++ moved_places from to rest ≡ whole
-  moved_pass items rest places whole place b are is no so_far =
-      sym (ap (λ ps. places ++ moved_places from to ps) are ∙ one_more places rest place false (sym is ∙ no)) ∙ so_far
-
-  pub moved_end : (places items whole : List Place) → items ≡ [] → places ++ moved_places from to items ≡ whole → places ≡ whole
-  moved_end places items whole ended so_far =
-      sym (append-nil places) ∙ sym (ap (λ ps. places ++ moved_places from to ps) ended) ∙ so_far
+-- what a test said of a list, and the branch that was taken
+pub free_from : (b x : Bool) → b ≡ not x → not b ≡ false → x ≡ false
+free_from true true said taken = absurd (cc)
+free_from true false said taken = refl
+free_from false x said taken = absurd (cc)

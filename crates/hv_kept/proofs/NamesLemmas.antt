@@ -30,7 +30,7 @@ tied Less e = absurd (cc)
 tied Equal e = refl
 tied Greater e = absurd (cc)
 
-here-true : (x y : Place) → eq_by_cmp place_cmp x y ≡ true → x ≡ y
+pub here-true : (x y : Place) → eq_by_cmp place_cmp x y ≡ true → x ≡ y
 here-true x y e = place_antisymmetric x y (tied (place_cmp x y) e)
 
 itself : (n : ℕ) → (n == n) ≡ true
