@@ -1,6 +1,6 @@
 -- What is kept of the tables, as the store makes a step and tables are kept and forgotten.
 
-use Rattle.std.proofs.Common.{◌≡◌, ℕ, Bool, true, false, cond, ◌&&◌, ◌==◌, List, [], Option, Some, None, Result, Vec, Ok, Err, IfOk, OnOk, OnErr, IsErrOf, is_ok, length, is_some, le_refl, lt_irrefl, nat_cmp, BTreeMap, refl, sym, ◌∙◌, ap, subst, inl, inr}
+use Rattle.std.proofs.Common.{◌≡◌, ℕ, Bool, true, false, cond, ◌&&◌, ◌==◌, List, [], Option, Some, None, Result, Ok, Err, IfOk, OnOk, OnErr, IsErrOf, is_ok, length, is_some, le_refl, lt_irrefl, nat_cmp, BTreeMap, refl, sym, ◌∙◌, ap, subst, inl, inr}
 use Rattle.std.specs.Cmp.{unsigned_Decides, unsigned_ties}
 use Rattle.std.specs.BTreeMap.{is_at, get, Updates, IsUnchanged}
 use Rattle.std.specs.Map.{lookup}
@@ -235,8 +235,16 @@ remove_undone dir before now (Ok done) undone torn = absurd (cc)
 remove_undone dir before now (Err failed) undone torn = torn_removed dir before now torn
 
 -- what a table that is kept was listed as
-pub listed_if : {E : Type 0} (table : TableId) (names : Store) (result : Result (Vec Place) E) (told : Option Store) →
-    IfOk result (λ places. (other : Option Store) → Knows other table.0 (Some names) → Tells other (λ s. places.items ≡ places_of table s.tree)) →
-    Knows told table.0 (Some names) → IfOk result (λ places. Tells told (λ s. places.items ≡ places_of table s.tree))
-listed_if table names (Ok places) told is known = is told known
-listed_if table names (Err fault) told is known = tt
+pub listed_if : {V E : Type 0} (table : TableId) (names : Store) (result : Result V E) (items : V → List Place) (told : Option Store) →
+    IfOk result (λ v. (other : Option Store) → Knows other table.0 (Some names) → Tells other (λ s. items v ≡ places_of table s.tree)) →
+    Knows told table.0 (Some names) → IfOk result (λ v. Tells told (λ s. items v ≡ places_of table s.tree))
+listed_if table names (Ok value) items told is known = is told known
+listed_if table names (Err fault) items told is known = tt
+
+-- what was listed, of the list itself
+pub told_list : {V E : Type 0} (result : Result V E) (value : V) (items : V → List Place) (told : Option Store) (table : TableId)
+    (places : List Place) → result ≡ Ok value → places ≡ items value →
+    IfOk result (λ v. Tells told (λ s. items v ≡ places_of table s.tree)) → Tells told (λ s. places ≡ places_of table s.tree)
+told_list result value items told table places is are listed =
+    subst (λ ps. Tells told (λ s. ps ≡ places_of table s.tree)) (sym are)
+    (subst (λ r. IfOk r (λ v. Tells told (λ s. items v ≡ places_of table s.tree))) is listed)

@@ -183,7 +183,6 @@ module _ (from : DirAt) (to : List ℕ) where
   renamed_known names names' (Some s) (Some s') noted step known = renamed_same names.tree names'.tree s s' noted step known
 
 -- what a test said of a list, and the branch that was taken
-pub free_from : (b x : Bool) → b ≡ not x → not b ≡ false → x ≡ false
-free_from true true said taken = absurd (cc)
-free_from true false said taken = refl
-free_from false x said taken = absurd (cc)
+pub free_from : (b x : Bool) → b ≡ not x → b ≡ true → x ≡ false
+free_from b true said taken = let clash : true ≡ false = sym taken ∙ said in cc
+free_from b false said taken = refl

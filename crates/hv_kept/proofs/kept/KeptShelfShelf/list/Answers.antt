@@ -6,7 +6,7 @@ pub returns-in-Some-clause-done : goal.returns-in-Some-clause-done
 returns-in-Some-clause-done g c =
     let known = told_known c.self.inside.kept (g.D.Shelf.told c.self.inside.inner) (g.D.Shelf.told c.args.self.now)
     (ap g.D.Shelf.told (sym c.self.view_is)) c.self.invariant
-    in listed_if c.args.table c.in-Some.names.now c.list_names.result (g.D.Shelf.told c.args.self.now) c.list_names.ensures.done
+    in listed_if c.args.table c.in-Some.names.now c.list_names.result (λ v. v.items) (g.D.Shelf.told c.args.self.now) c.list_names.ensures.done
     (taken_known c.args.table.0 c.self.inside.kept (g.D.Shelf.told c.args.self.now) c.in-Some.names.now (option_copied c.get.result)
     c.get.ensures.value (ap option_copied c.in-Some.is) known)
 
