@@ -1,6 +1,6 @@
 -- What is kept of the tables, as the store makes a step and tables are kept and forgotten.
 
-use Rattle.std.proofs.Common.{◌≡◌, ℕ, Bool, true, false, cond, ◌&&◌, ◌==◌, List, [], Option, Some, None, Result, Ok, Err, IfOk, OnOk, OnErr, IsErrOf, is_ok, length, is_some, le_refl, lt_irrefl, nat_cmp, BTreeMap, refl, sym, ◌∙◌, ap, subst, inl, inr}
+use Rattle.std.proofs.Common.{◌≡◌, ℕ, Bool, true, false, cond, ◌&&◌, List, Option, Some, None, Result, Ok, Err, IfOk, OnOk, OnErr, IsErrOf, is_ok, length, is_some, le_refl, lt_irrefl, nat_cmp, BTreeMap, refl, sym, ◌∙◌, ap, subst, inl, inr}
 use Rattle.std.specs.Cmp.{unsigned_Decides, unsigned_ties}
 use Rattle.std.specs.BTreeMap.{is_at, get, Updates, IsUnchanged}
 use Rattle.std.specs.Map.{lookup}

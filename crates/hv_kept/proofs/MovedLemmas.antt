@@ -8,10 +8,10 @@ use Rattle.std.specs.Cmp.{eq_by_cmp_equiv, unsigned_Decides, first_so, second_so
 use Rattle.std.specs.Cmp.Lexicographic.{pointwise}
 use Rattle.std.specs.FinMap as tree
 use Rattle.std.proofs.lemmas.Slice.Eq.{bytes_eq-Decides}
-use Rattle.hv_base.specs.Told.{Tells, Moves}
+use Rattle.hv_base.specs.Told.{Moves}
 use Rattle.hv_shelf.specs.declared.place.Place.{Place}
 use Rattle.hv_shelf.specs.declared.place.DirAt.{DirAt}
-use Rattle.hv_shelf.specs.Disk.{Tree, Store, IsRemoved, IsRenamed, renamed_get}
+use Rattle.hv_shelf.specs.Disk.{Tree, Store, IsRemoved, IsRenamed}
 use Rattle.hv_shelf.specs.Laws.{get-IsRemoved}
 use Rattle.hv_shelf.specs.Places.{place_cmp, place_total, is_in, place_named, dir_named}
 use Rattle.hv_shelf.proofs.RenameLemmas.{Within}

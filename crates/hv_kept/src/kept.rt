@@ -1,8 +1,4 @@
-ghost use Rattle.std.specs.Prelude.{◌≡◌, ℕ, ◌≤◌, [], length, option_map, IfOk, OnOk, OnErr, IsErr, IsErrOf};
-ghost use Rattle.std.specs.FinMap as tree;
-ghost use Rattle.hv_base.specs.Told.{Tells, Moves};
-ghost use Rattle.hv_shelf.specs.Causes.{SoftCause, HardCause};
-ghost use Rattle.hv_shelf.specs.Disk.{Store, places_of, ReadsAt, HasFile, IsRemoved, IsRenamed, HasWritten, TornFile, TornRemove, TornRename, TornWrite, IsListing};
+ghost use Rattle.std.specs.Prelude.{◌≡◌};
 
 use crate::names::{Names, list_names};
 use crate::settling::{settle_list, settle_put, settle_remove, settle_rename};

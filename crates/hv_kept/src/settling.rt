@@ -16,7 +16,8 @@ pub fn settle_list(
     listed: &Result<Vec<Place>, ShelfFault>,
 )
     ensures known { (told : Option Store) → IfOk listed.now (λ places.
-        Tells told (λ s. places.items ≡ places_of table s.tree)) → AreKnown told kept.old → AreKnown told kept.new }
+        Tells told (λ s. places.items ≡ places_of table s.tree))
+        → AreKnown told kept.old → AreKnown told kept.new }
 {
     if let Ok(places) = listed {
         learn(alloc, kept, table, places);
