@@ -17,6 +17,7 @@ use crate::script_fault::tell_script_fault;
 use crate::watching::{Reply, Watching};
 use hv_base::NoGate;
 use hv_files::{FileFault, FileShelf};
+use hv_kept::KeptShelf;
 use hv_program::hive;
 use hv_streams::{Standard, StdSink, StdSource};
 use std::alloc::Global;
@@ -84,7 +85,7 @@ fn main(rt: HostRuntime) -> ExitCode {
         Err(refusal) => return ExitCode::from(refuse(&rt, &mut sink, "", refusal)),
     };
     let shelf = match FileShelf::at(alloc, rt, folder.as_str()) {
-        Ok(shelf) => shelf,
+        Ok(shelf) => KeptShelf::over(alloc, shelf),
         Err(fault) => {
             let refusal = refusal_of(fault);
             return ExitCode::from(refuse(&rt, &mut sink, folder.as_str(), refusal));
@@ -103,10 +104,15 @@ fn main(rt: HostRuntime) -> ExitCode {
     if ended.status == 2 {
         blame_words(&rt, words.as_slice());
     }
-    if ended.shelf.is_made() {
+    if ended.shelf.inner().is_made() {
         let _ = eprintln!(rt; "hive: a new store was made in the folder {folder}");
     }
     tell(&rt, alloc, ended.status, source.script(), sink.replies());
-    advise(&rt, folder.as_str(), ended.status, ended.shelf.last_cause());
+    advise(
+        &rt,
+        folder.as_str(),
+        ended.status,
+        ended.shelf.inner().last_cause(),
+    );
     ExitCode::from(ended.status)
 }

@@ -2,9 +2,9 @@
 //! otherwise. A row is
 //!     KIND WORD|CALL;ARGUMENT;ARGUMENT..|CALL.. → ANSWER ANSWER..
 //! with as KIND `folder`, and the store at the path WORD is opened for the row; or `memory`, and the store is a new one
-//! that fails at the calls WORD; or `none`, where no store is open; or `events`, and the calls are made over files in memory
-//! while something happens before each call of the system in turn; or `opens`, and what stands in memory is opened. A line
-//! that begins with # says what follows.
+//! that fails at the call WORD; or `kept`, and it is one over such a store that keeps what it has listed; or `none`, where
+//! no store is open; or `events`, and the calls are made over files in memory while something happens before each call of
+//! the system in turn; or `opens`, and what stands in memory is opened. A line that begins with # says what follows.
 //!
 //! The WORD of `events` is `FROM>TO,FROM>TO;BEFORE;AFTER;FILES`: what gets which name (where nothing does, the run is killed),
 //! where what isn't to be touched stands before it and after it, and what stands in the folder `wh` at first, as

@@ -3,7 +3,9 @@ use crate::folders::{is_so, open};
 use crate::steps::{say, step};
 use crate::words::{number, piece};
 use hv_base::NoMemory;
+use hv_kept::KeptShelf;
 use hv_shelf::{Fail, MemoryShelf, Op, Shelf};
+use std::alloc::Global;
 use std::fs::File;
 use std::rt::Files;
 
@@ -47,19 +49,35 @@ fn op_of(name: &str) -> Op {
     Op::Remove
 }
 
-/// With a store in memory that fails at the call of a kind and number, as `CALL;NUMBER`, and is asked nothing where the
-/// calls are those of the folder.
+/// A store in memory that fails at the call of a kind and number, as `CALL;NUMBER`.
+fn memory_of(alloc: Global, failing: &str) -> Result<MemoryShelf, NoMemory> {
+    let fail = Fail {
+        op: op_of(piece(failing, 0)),
+        nth: number(failing, 1),
+    };
+    MemoryShelf::new(alloc, vec![in alloc; fail]?)
+}
+
+/// With such a store, which is asked nothing where the calls are those of the folder.
 fn in_memory<R: Files<File = File> + AllocGlobal + Copy>(
     rt: &R,
     out: &mut String,
     failing: &str,
     calls: &str,
 ) -> Result<(), NoMemory> {
-    let fail = Fail {
-        op: op_of(piece(failing, 0)),
-        nth: number(failing, 1),
-    };
-    let mut shelf = MemoryShelf::new(rt.alloc(), vec![in rt.alloc(); fail]?)?;
+    let mut shelf = memory_of(rt.alloc(), failing)?;
+    all_steps(rt, out, &mut shelf, calls)
+}
+
+/// With a store over such a one that keeps what it has listed.
+fn in_kept<R: Files<File = File> + AllocGlobal + Copy>(
+    rt: &R,
+    out: &mut String,
+    failing: &str,
+    calls: &str,
+) -> Result<(), NoMemory> {
+    let memory = memory_of(rt.alloc(), failing)?;
+    let mut shelf = KeptShelf::over(rt.alloc(), memory);
     all_steps(rt, out, &mut shelf, calls)
 }
 
@@ -86,6 +104,7 @@ pub fn answer<R: Files<File = File> + AllocGlobal + Copy>(
         "folder" => in_folder(rt, out, word, calls),
         "events" => events(rt.alloc(), out, word, calls),
         "opens" => opens(rt.alloc(), out, word),
+        "kept" => in_kept(rt, out, word, calls),
         _ => in_memory(rt, out, word, calls),
     }
 }

@@ -1,0 +1,6 @@
+use Rattle.hv_kept.proofs.KnownLemmas.{told_known}
+use Rattle.hv_kept.proofs.kept.KeptShelfShelf.get.Goals as goal
+
+pub invariant_of-self : goal.invariant_of-self
+invariant_of-self g c =
+    told_known c.self.inside.kept (g.D.Shelf.told c.self.inside.inner) (g.D.Shelf.told c.get.new.self) c.get.ensures.same c.self.invariant
