@@ -50,15 +50,15 @@ traced() {
     status=$?
 }
 
-# numbered FOLDER: of these calls, from the first one that names the folder on, the name, how often it was called up to there, which
-# is how strace counts, and the whole line.
+# numbered FOLDER: of these calls, from the first one that names the folder on, the name, how often the process called it up to there,
+# which is how strace counts, and the whole line.
 numbered() {
-    awk -v folder="\"$1" '{ sub(/^[0-9]+ +/, "") }
+    awk -v folder="\"$1" '{ process = $1; sub(/^[0-9]+ +/, "") }
         match($0, /^[a-z0-9_]+\(/) {
             name = substr($0, 1, RLENGTH - 1)
-            count[name]++
+            count[process, name]++
             if (name != "execve" && index($0, folder)) begun = 1
-            if (begun) print name, count[name], $0
+            if (begun) print name, count[process, name], $0
         }' calls
 }
 
