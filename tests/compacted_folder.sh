@@ -545,8 +545,8 @@ killed_while_compacting() {
 # ---- calls that fail in it
 
 # phases: of the numbered calls of such a run, what comes of each where it fails: `stops` in the opening, in a call for the journal and where the
-# base gets its name; `reads` and `writes` in what the job reads and puts; `leaves` in what a pass removes; `passes` in what it only lists. What
-# is looked at before a change belongs to the change.
+# base gets its name; `reads` and `writes` in what the job reads and puts; `leaves` in what a pass removes; `passes` in what it only lists, and
+# where the run looks whether there is a /proc, without which it goes by names. What is looked at before a change belongs to the change.
 phases() {
     awk '
         { line[NR] = $0 }
@@ -563,7 +563,8 @@ phases() {
         END {
             list = back(list)
             for (at = 1; at <= NR; at++) {
-                if (at < list) what = "stops"
+                if (line[at] ~ /^statx [0-9]+ .*"\/proc\/self\/fd\/[0-9]+\/\."/) what = "passes"
+                else if (at < list) what = "stops"
                 else if (at < put) what = "reads"
                 else if (at < named) what = "writes"
                 else if (at <= published) what = "stops"
