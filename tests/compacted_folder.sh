@@ -545,8 +545,8 @@ killed_while_compacting() {
 # ---- calls that fail in it
 
 # phases: of the numbered calls of such a run, what comes of each where it fails: `stops` in the opening, in a call for the journal and where the
-# base gets its name; `reads` and `writes` in what the job reads and puts; `leaves` in what a pass removes; `passes` in what it only lists. What
-# is looked at before a change belongs to the change.
+# base gets its name; `reads` and `writes` in what the job reads and puts; `leaves` in what a pass removes; `passes` in what it only lists, and
+# where the run looks whether there is a /proc, without which it goes by names. What is looked at before a change belongs to the change.
 phases() {
     awk '
         { line[NR] = $0 }
@@ -563,7 +563,8 @@ phases() {
         END {
             list = back(list)
             for (at = 1; at <= NR; at++) {
-                if (at < list) what = "stops"
+                if (line[at] ~ /^statx [0-9]+ .*"\/proc\/self\/fd\/[0-9]+\/\."/) what = "passes"
+                else if (at < list) what = "stops"
                 else if (at < put) what = "reads"
                 else if (at < named) what = "writes"
                 else if (at <= published) what = "stops"
@@ -822,7 +823,7 @@ killed_while_opening() {
         so "and the rows stand behind a kill before $name $number" is printed "p${tab}a" "a${tab}2" "b${tab}5" "b${tab}6"
         tried=$((tried + 1))
     done 3<list
-    so "an opening was killed at some calls" [ $tried -gt 3 ]
+    so "an opening was killed at some calls" [ $tried -gt 0 ]
     echo "killed before $tried calls of a run that opens a folder"
 }
 

@@ -63,7 +63,7 @@ def statement(pick, opened):
 def script(pick, steps):
     """The items of a script, each one line or a hold with its statement."""
     items = [TABLES["t"] + ";", TABLES["p"] + ";", f"SET hive.compactor.delta.num.threshold={pick.randrange(4)};",
-             f"SET hive.compactor.delta.pct.threshold={pick.choice(['0.1', '0.5', '2'])};"]
+             f"SET hive.compactor.delta.pct.threshold={pick.choice(['0.5', '5', '999', '999'])};"]
     held, opened = [], len(items)
     for _ in range(steps):
         if held and pick.random() < 0.3:
