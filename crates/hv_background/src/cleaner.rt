@@ -38,8 +38,8 @@ fn clean_round<D: Shelf + Drop, W: Actor<D, ToldHouse<D>>>(
     }
 }
 
-/// Cleans, pass by pass, until the flag is set. What it adds are items of a cleaner alone. Where a pass took nothing away
-/// others may run.
+/// Cleans, pass by pass, until the flag is set. What it adds are items of a cleaner alone. Where a pass took nothing
+/// away others may run.
 ///
 /// # Errors
 /// As `clean_pass`: the passes end there.

@@ -1,8 +1,8 @@
 //! Readers, compactions, passes of a cleaner and a DROP TABLE over one house, interleaved act by act as the input says.
 //! What is to be printed was worked out by hand.
 //!
-//! A line `==== TITLE` begins a case over an empty store. The lines behind it, up to the next such line, are what is done
-//! in it.
+//! A line `==== TITLE` begins a case over an empty store. The lines behind it, up to the next such line, are what is
+//! done in it.
 #![tactic(auto)]
 
 mod acting;
