@@ -4,6 +4,7 @@
 
 ghost use Rattle.tests_seats.specs.Beside.{IsAsKept, told_memory, hard_memory};
 
+mod apart;
 mod house;
 mod statements;
 mod threads;

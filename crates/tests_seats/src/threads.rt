@@ -1,9 +1,9 @@
-//! Two threads at one turn: each takes a part of the seat, and acts from a chair.
+//! Two threads that do statements: each acts from a chair.
 ghost use Rattle.std.specs.Prelude.{◌≡◌, false, IfOk};
-ghost use Rattle.std.specs.Thread.{IsSync};
 ghost use Rattle.hv_seated.specs.Seats.{fixed_of};
-ghost use Rattle.tests_seats.specs.Beside.{told_memory, hard_memory, IsAsKept, IsGivenBack, IsWholeSeat};
+ghost use Rattle.tests_seats.specs.Beside.{told_memory, hard_memory, IsAsKept, IsGivenBack};
 
+use crate::apart::{Worker, both};
 use crate::statements::say_all;
 use hv_seated::{Chair, SeatKey, Shared};
 use hv_session::hv_beginning::hv_steps::hv_table_reader::hv_acts::ToldHouse;
@@ -12,7 +12,7 @@ use hv_turn::{Seat, Turn};
 use std::alloc::Global;
 use std::marker::Brand;
 use std::sync::Wait;
-use std::thread::{Threads, join};
+use std::thread::Threads;
 
 /// A house over a store in memory, which seats take in turn.
 type House = Shared<MemoryShelf, ToldHouse<MemoryShelf>>;
@@ -60,36 +60,19 @@ fn work<R: Wait>(
     sit::<Brand, R>(rt, alloc, turn, seat, who)
 }
 
-/// Both threads, side by side.
-#[tactic(auto, using(crate::proofs::Backs::whole_again))]
-fn both<R: Threads + Wait + Sync>(
-    rt: &R,
-    alloc: Global,
-    turn: &Turn<House>,
-    seat: Seat<House>,
-) -> (Seat<House>, Option<String>, Option<String>)
-    requires turn { seat.turn ≡ turn.now }
-    requires free { seat.has_turn ≡ false }
-    requires all { seat.parts ≡ 64 }
-    ensures seat { IsWholeSeat turn.now result.0 }
-{
-    let mut rest = seat;
-    let one = turn.split(&mut rest);
-    let (first, second) = join(
-        rt,
-        || -> (Seat<House>, Option<String>)
-            requires { IsSync R.row × (one.turn ≡ turn.now) × (one.has_turn ≡ false) }
-            ensures { IsGivenBack one result.0 }
-        { work(rt, alloc, turn, one, 0) },
-        || -> (Seat<House>, Option<String>)
-            requires { IsSync R.row × (rest.turn ≡ turn.now) × (rest.has_turn ≡ false) }
-            ensures { IsGivenBack rest result.0 }
-        { work(rt, alloc, turn, rest, 1) },
-    );
-    let (one, said_one) = first;
-    let (mut rest, said_two) = second;
-    turn.join(&mut rest, one);
-    (rest, said_one, said_two)
+/// Who does statements from a seat.
+struct Sitter;
+
+impl Worker<House> for Sitter {
+    fn work<R: Wait>(
+        rt: &R,
+        alloc: Global,
+        turn: &Turn<House>,
+        seat: Seat<House>,
+        who: u64,
+    ) -> (Seat<House>, Option<String>) {
+        work(rt, alloc, turn, seat, who)
+    }
 }
 
 /// Lets both threads do their statements over this house. It comes back as acts keep it; without memory for the turn it
@@ -105,7 +88,7 @@ pub(crate) fn beside<R: Threads + Wait + Sync>(
     let shared: House = Shared::new(house);
     match Turn::new(shared, alloc) {
         Ok((turn, seat)) => {
-            let (seat, said_one, said_two) = both(rt, alloc, &turn, seat);
+            let (seat, said_one, said_two) = both::<R, House, Sitter>(rt, alloc, &turn, seat);
             let shared = turn.close(seat);
             Ok((shared.into_house(), said_one, said_two))
         }
