@@ -11,8 +11,8 @@ new-requires g c = record {
   keeps = subst (λ (h : ToldHouse Memory). IsAsKept told_memory hard_memory h) (sym c.new-shared.ensures.house) c.requires.keeps;
 }
 
-pub both-requires-send-S : goal.both-requires-send-S
-both-requires-send-S g c κs = param_send _ _ turned_row
+pub both-seat-requires-send-S : goal.both-seat-requires-send-S
+both-seat-requires-send-S g c κs = param_send _ _ turned_row
 
 pub returns-in-Ok : goal.returns-in-Ok
 returns-in-Ok g c = record {
