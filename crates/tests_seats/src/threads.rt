@@ -70,7 +70,11 @@ impl Worker<House> for Sitter {
         turn: &Turn<House>,
         seat: Seat<House>,
         who: u64,
-    ) -> (Seat<House>, Option<String>) {
+    ) -> (Seat<House>, Option<String>)
+        requires turn { seat.turn ≡ turn.now }
+        requires free { seat.has_turn ≡ false }
+        ensures seat { IsGivenBack seat result.0 }
+    {
         work(rt, alloc, turn, seat, who)
     }
 }
