@@ -1,9 +1,11 @@
 use denote.Param.Send.{param_send}
 use Rattle.std.proofs.Common.{sym, subst}
 use Rattle.hv_shelf.specs.Plan.{Memory}
+use Rattle.hv_shelf.specs.contracts.memory.MemoryShelf as memory
+use Rattle.hv_shelf.proofs.memory.MemoryShelf.TheSendSync as memory_sent
 use Rattle.hv_session.specs.hv_beginning.specs.hv_steps.specs.hv_table_reader.specs.hv_acts.specs.declared.told.ToldHouse.{ToldHouse}
 use Rattle.tests_seats.specs.Beside.{told_memory, hard_memory, IsAsKept}
-use Rattle.tests_seats.proofs.HouseCrossing.{turned_row}
+use Rattle.tests_seats.proofs.HouseCrossing.{told_row}
 use Rattle.tests_seats.proofs.threads.beside.Goals as goal
 
 pub new-requires : goal.new-requires
@@ -11,8 +13,8 @@ new-requires g c = record {
   keeps = subst (λ (h : ToldHouse Memory). IsAsKept told_memory hard_memory h) (sym c.new-shared.ensures.house) c.requires.keeps;
 }
 
-pub both-seat-requires-send-S : goal.both-seat-requires-send-S
-both-seat-requires-send-S g c κs = param_send _ _ turned_row
+pub both-seat-requires-send-H : goal.both-seat-requires-send-H
+both-seat-requires-send-H g c κs = param_send _ _ (told_row memory.the_row memory_sent.the_send)
 
 pub returns-in-Ok : goal.returns-in-Ok
 returns-in-Ok g c = record {

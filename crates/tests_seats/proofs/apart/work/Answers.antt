@@ -1,5 +1,5 @@
 use Rattle.std.proofs.Common.{refl}
-use Rattle.tests_seats.proofs.threads.work.Goals as goal
+use Rattle.tests_seats.proofs.apart.work.Goals as goal
 
 pub sit-requires-clause-fixed : goal.sit-requires-clause-fixed
 sit-requires-clause-fixed g c = refl
