@@ -14,7 +14,7 @@ new-requires g c = record {
 }
 
 pub both-seat-requires-send-H : goal.both-seat-requires-send-H
-both-seat-requires-send-H g c κs = param_send _ _ (told_row memory.the_row memory_sent.the_send)
+both-seat-requires-send-H g c κs _ = param_send _ _ (told_row memory.the_row memory_sent.the_send)
 
 pub returns-in-Ok : goal.returns-in-Ok
 returns-in-Ok g c = record {
