@@ -36,3 +36,6 @@ module _ (D : RattleType) (s : IsSend D) where
 -- one over a store in memory, which seats take in turn
 pub turned_row : IsSend (shared.the_row memory.the_row (told.the_row memory.the_row))
 turned_row = shared_row memory.the_row memory_sent.the_send
+
+pub told_memory_row : IsSend (told.the_row memory.the_row)
+told_memory_row = told_row memory.the_row memory_sent.the_send
