@@ -1,5 +1,5 @@
--- A house may cross threads where its store may, and so may one that seats take in turn: all that it holds has its lemma, as
--- rattle writes one for each type, but for its book.
+-- A house may cross threads where its store may: all that it holds has its lemma, as rattle writes one for each type, but for
+-- its book.
 use denote.RattleType.{RattleType}
 use denote.Param.Send.{IsSend, sendable}
 use denote.Param.SendFields.{as_row_send}
@@ -8,7 +8,6 @@ use Rattle.hv_shelf.specs.contracts.memory.MemoryShelf as memory
 use Rattle.hv_shelf.proofs.memory.MemoryShelf.TheSendSync as memory_sent
 use Rattle.hv_trail.proofs.trail.Mark.TheSendSync as mark
 use Rattle.hv_trail.specs.contracts.kept.KeptTrail as trail
-use Rattle.hv_seated.specs.contracts.shared.Shared as shared
 use Rattle.hv_session.specs.hv_beginning.specs.hv_steps.specs.hv_table_reader.specs.hv_acts.specs.contracts.told.ToldHouse as told
 use Rattle.hv_session.specs.hv_beginning.specs.hv_steps.specs.hv_table_reader.specs.hv_acts.specs.hv_telling.specs.hv_house.specs.contracts.house.House as house
 use Rattle.hv_session.specs.hv_beginning.specs.hv_steps.specs.hv_table_reader.specs.hv_acts.specs.hv_telling.specs.hv_house.proofs.buffer.RecordBuffer.TheSendSync as buffer
@@ -27,15 +26,6 @@ module _ (D : RattleType) (s : IsSend D) where
   pub told_row : IsSend (told.the_row D)
   told_row = as_row_send (told.the_field D) told_field
 
-  shared_field : IsSend (shared.the_field D (told.the_row D)).row
-  shared_field = let h = told_row in search (sendable, crosses) depth 40
-
-  pub shared_row : IsSend (shared.the_row D (told.the_row D))
-  shared_row = as_row_send (shared.the_field D (told.the_row D)) shared_field
-
--- one over a store in memory, which seats take in turn
-pub turned_row : IsSend (shared.the_row memory.the_row (told.the_row memory.the_row))
-turned_row = shared_row memory.the_row memory_sent.the_send
-
+-- one over a store in memory
 pub told_memory_row : IsSend (told.the_row memory.the_row)
 told_memory_row = told_row memory.the_row memory_sent.the_send
