@@ -1,0 +1,5 @@
+pub mod Starts
+pub mod Backs
+pub mod Crossing
+pub mod BookCrossing
+pub mod HouseCrossing
