@@ -6,7 +6,7 @@ usage: random_queries.py PROGRAM [COUNT] [SEED]
 PROGRAM is the built program of tests_types. It analyses each line, runs each query over 13 rows made for each
 table by one worker and by 1, 3 and 8 in parts of one row, and says where the rows differ. COUNT queries (400) of
 every form are written: conditions, joins of each kind with a residue, groups with HAVING, DISTINCT, unions,
-subqueries in FROM and in IN and EXISTS, lateral views, ORDER BY with LIMIT. A query that is refused doesn't count;
+subqueries in FROM, lateral views, ORDER BY with LIMIT. A query that is refused doesn't count;
 so many are written that COUNT are run. The status is 1 where rows differ, where a line is no statement, or where
 the program's own count isn't COUNT.
 """
@@ -114,13 +114,8 @@ def source(rng):
 
 def filtered(rng, sources):
     """WHERE, or nothing."""
-    turn = rng.random()
-    if turn < 0.4:
+    if rng.random() < 0.4:
         return ""
-    if turn < 0.5:
-        found = columns(sources, "number")
-        if found:
-            return f" WHERE {rng.choice(found)} {rng.choice(['', 'NOT '])}IN (SELECT k FROM {rng.choice('uw')})"
     return f" WHERE {condition(rng, sources)}"
 
 
